@@ -57,6 +57,23 @@ mkdir other
 call play --dir other >/dev/null
 same 'another directory has other ids' no "$(grep -qF "$id" printed && echo yes || echo no)"
 
+# A lease is gone when its task has ended. One that a killed program left keeps what it names, until its file is removed.
+printf 'task a write main 0 fail\ngroup /\ncommit first\ntask b read branch main\nlease\nlist /\nturns\n' >given
+mkdir leased
+call play --dir leased >came
+base=$(sed -n 's/^a committed //p' printed)
+same 'a lease is shown by nothing' "a committed $base|b done|branch main $base|0|" "$(cat came)"
+same 'no lease is left' '' "$(find leased/leases -type f)"
+printf '{"snapshot":"%s"}' "$base" >leased/leases/0000008000000000000G
+now=$(($(date +%s) + 1))000000
+sleep 2
+printf 'task c refs\nreset main id 1CECHNKREP0F1RSTCMT0\ntask d collect %s\nturns\n' "$now" >given
+same 'a lease that was left keeps its snapshot' 'c done|d collected 0 0 0 0|branch main 1CECHNKREP0F1RSTCMT0|0|' "$(call play --dir leased)"
+rm leased/leases/0000008000000000000G
+printf 'task d collect %s\n' "$now" >given
+same 'without it the snapshot goes' 'd collected 1 1 0 0|branch main 1CECHNKREP0F1RSTCMT0|0|' "$(call play --dir leased)"
+rm -r leased
+
 # What was written is read by later runs: chunks that are objects and chunks in manifests, tags, and the log with a property.
 printf 'task a write main 0 fail\narray /x uint8 1200 600 0\narray /y uint8 4 2 0\nfill /x 1 07\nset /y 0 0102\nprop author ann lee\ncommit chunks\n' >given
 printf 'task t refs\ntag v1 branch main\nturns\n' >>given

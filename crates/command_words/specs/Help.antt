@@ -31,6 +31,7 @@ play_text =
     ++ codes "Reads a script from standard input and plays it, over a repository in memory, or in the directory PATH.\n"
     ++ codes "A line `put PATH FROM TO CELLS` writes the numbers of a box of cells, and `cells PATH FROM TO` shows them.\n"
     ++ codes "A line `prop NAME VALUE` before a commit gives its snapshot a text under a name, which `log` shows.\n"
+    ++ codes "A line `lease` keeps what its task reads from collections, until the task ends.\n"
     ++ codes "A task `task NAME expire @2026-01-01T00:00:00Z keep` takes older snapshots out of the histories of refs.\n"
     ++ codes "A task `task NAME collect @2026-01-01T00:00:00Z` removes objects that no ref reaches and that are older.\n"
     ++ codes "Prints what each task showed and how it ended, and then the snapshot at which each branch and tag stands.\n"

@@ -15,7 +15,7 @@ use Rattle.repo_objects.specs.Readings.{snapshot_by, ref_of}
 use Rattle.object_store.specs.declared.keys.Key.{Key}
 use Rattle.object_store.specs.declared.keys.Key.TheVariants.{Snapshot, Manifest, Txn, Chunk, Branch, Tag, Tombstone, Lease}
 use Rattle.object_store.specs.declared.keys.Why.{Why}
-use Rattle.object_store.specs.declared.keys.Why.TheVariants.{Commit}
+use Rattle.object_store.specs.declared.keys.Why.TheVariants.{Commit, Lease as For_lease}
 use Rattle.object_store.specs.declared.events.Op.{Op}
 use Rattle.object_store.specs.declared.events.Op.TheVariants.{Get, PutNew, PutOver, Remove, RemoveAt, List as ListPart}
 use Rattle.object_store.specs.declared.events.Event.{Event}
@@ -87,7 +87,7 @@ pub record OwesSnap (mine : Sessions) (journal : List Event) (id : Id12) (bytes 
   pub logged : IsOnce journal → log_made journal id ≡ Some (touched session.held (base_nodes session))
   pub chunks : IsOnce journal → HasChunks (puts_of journal) session.held.chunks
 
--- what is put new is a snapshot, or a log, a manifest or an object with a chunk under an id that the client may draw, whose source of
+-- what is put new is a snapshot, or a log, a manifest, an object with a chunk or a lease under an id that the client may draw, whose source of
 -- ids this is
 abbrev pub OwesNew : AnyIds → Sessions → List Event → List ℕ → Key → Type 0
 OwesNew ids mine journal bytes (Snapshot id) = OwesSnap mine journal id bytes
@@ -97,7 +97,7 @@ OwesNew ids mine journal bytes (Chunk id) = MayDrawObject ids id
 OwesNew ids mine journal bytes (Branch name) = ⊥
 OwesNew ids mine journal bytes (Tag name) = ⊥
 OwesNew ids mine journal bytes (Tombstone name) = ⊥
-OwesNew ids mine journal bytes (Lease id) = ⊥
+OwesNew ids mine journal bytes (Lease id) = MayDrawObject ids id
 
 -- what is put over is a branch
 abbrev pub OwesPutOver : Sessions → List Event → List ℕ → ℕ → Why → Key → Type 0
@@ -110,13 +110,24 @@ OwesPutOver mine journal bytes old why (Tag name) = ⊥
 OwesPutOver mine journal bytes old why (Tombstone name) = ⊥
 OwesPutOver mine journal bytes old why (Lease id) = ⊥
 
--- a client that opens sessions, edits and commits them reads, puts objects and puts branches over
+-- what is removed is a lease under such an id: nobody releases another's
+abbrev pub OwesGone : AnyIds → Why → Key → Type 0
+OwesGone ids why (Lease id) = MayDrawObject ids id × (why ≡ For_lease)
+OwesGone ids why (Snapshot id) = ⊥
+OwesGone ids why (Manifest id) = ⊥
+OwesGone ids why (Txn id) = ⊥
+OwesGone ids why (Chunk id) = ⊥
+OwesGone ids why (Branch name) = ⊥
+OwesGone ids why (Tag name) = ⊥
+OwesGone ids why (Tombstone name) = ⊥
+
+-- a client that opens sessions, edits and commits them reads, puts objects and leases, puts branches over, and releases its leases
 abbrev pub Owes : AnyIds → Sessions → List Event → Op → Type 0
 Owes ids mine journal (Get key) = Unit {0}
 Owes ids mine journal (ListPart part) = Unit {0}
 Owes ids mine journal (PutNew key bytes why) = OwesNew ids mine journal bytes key
 Owes ids mine journal (PutOver key bytes old why) = OwesPutOver mine journal bytes old.0 why key
-Owes ids mine journal (Remove key why) = ⊥
+Owes ids mine journal (Remove key why) = OwesGone ids why key
 Owes ids mine journal (RemoveAt key old why) = ⊥
 
 -- each operation is polite, and owed

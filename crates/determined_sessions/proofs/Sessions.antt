@@ -15,7 +15,7 @@ use Rattle.script_calls.specs.declared.calls.Access.{Access}
 use Rattle.script_calls.specs.declared.calls.Head.TheVariants.{Session}
 use Rattle.play_script.specs.declared.scripts.Line.{Line}
 use Rattle.play_outcome.specs.declared.outcome.Shown.{Shown}
-use Rattle.play_tasks.specs.Lines.{Deed, Goes, Sets, Reads, Puts, Gathers, Commits, deed}
+use Rattle.play_tasks.specs.Lines.{Deed, Goes, Sets, Reads, Puts, Gathers, Leases, Commits, deed}
 use Rattle.play_tasks.specs.Playing.{asked_by}
 use Rattle.play_tasks.specs.Solving.{DidPlay, PlaysAll}
 use Rattle.determined_sessions.specs.Sessions.{box_put, boxes_put, LinesLaw, SessionsLaw}
@@ -65,6 +65,7 @@ did-one client other (Sets path index bytes) s t u start journal begun whole sho
 did-one client other (Reads path index show) s t u start journal begun whole shown told p q h = p.0 ∙ sym q.0
 did-one client other (Puts path from to numbers) s t u start journal begun whole shown told p q h = put-one client other s path from to numbers t u start journal begun whole p.1 q.1 h
 did-one client other (Gathers path from to show) s t u start journal begun whole shown told p q h = p.0 ∙ sym q.0
+did-one client other (Leases show) s t u start journal begun whole shown told p q h = p.becomes ∙ sym q.becomes
 did-one client other (Commits message) s t u start journal begun whole shown told p q h = absurd p
 
 -- the boxes of the first line, and of those behind it

@@ -1,7 +1,8 @@
 -- What lines do is determined, and what is left of changes, in words of trees.
-use Rattle.std.proofs.Common.{◌≡◌, ◌⊎◌, ℕ, List, [], ◌∷◌, ◌++◌, Option, Some, None, Result, Ok, inl, inr, ℤ, Bool, true, false, refl, sym, ◌∙◌, ap, subst}
+use Rattle.std.proofs.Common.{◌≡◌, ◌⊎◌, ℕ, List, [], ◌∷◌, ◌++◌, map, Option, Some, None, Result, Ok, inl, inr, ℤ, Bool, true, false, refl, sym, ◌∙◌, ap, subst}
 use Rattle.std.specs.Cmp.{both_ways}
 use Rattle.std.proofs.lemmas.Bool.{false≢true}
+use Rattle.std.proofs.lemmas.List.{map-append}
 use Rattle.ice_ids.specs.declared.Id8.{Id8}
 use Rattle.ice_ids.specs.declared.Id12.{Id12}
 use Rattle.zarr_path.specs.Paths.{same_path}
@@ -31,7 +32,7 @@ use Rattle.script_calls.specs.declared.calls.Call.TheVariants as C
 use Rattle.play_outcome.specs.declared.outcome.Shown.{Shown}
 use Rattle.run_promise.specs.Lines.{text_put, key_put, edit_of, Edits, PutsBox, Changed, Does, Plays}
 use Rattle.run_promise.specs.Ways.{Carried, stays, over}
-use Rattle.determined_sessions.specs.Trees.{id_added, edit_ids, id_given, ids_given, PlaysLaw, links_of, CarriedLaw}
+use Rattle.determined_sessions.specs.Trees.{id_added, edit_ids, id_given, ids_given, but_leases, PlaysLaw, links_of, CarriedLaw}
 
 some-same : {A : Type 0} (a b : A) → Some a ≡ Some b → a ≡ b
 some-same a b e = cc
@@ -100,13 +101,19 @@ edit-same id other o p m n xs ys (inl same) e f h =
 edit-same id other o p m n xs ys (inr a) e f h = adds-same a.path a.text id other m n xs ys (sym a.first ∙ e) (sym a.second ∙ f) h
 
 -- what one line shows, the tree behind it, and the ids behind its own
+abbrev AreShown : List Shown → List Shown → Type 0
+AreShown shown told = map but_leases shown ≡ map but_leases told
+
 abbrev Alike : (shown told : List Shown) (u v : Tree) (xs ys : List Id8) → Type 0
-Alike shown told u v xs ys = (shown ≡ told) × (u ≡ v) × (xs ≡ ys)
+Alike shown told u v xs ys = AreShown shown told × (u ≡ v) × (xs ≡ ys)
+
+shown-same : (shown told : List Shown) → shown ≡ told → AreShown shown told
+shown-same shown told e = ap (map but_leases) e
 
 edits-same : (edit : EditCall) (t : Tree) (shown told : List Shown) (u v : Tree) (p : Edits edit t shown u) (q : Edits edit t told v) (xs ys : List Id8) → id_added p.made ++ xs ≡ id_added q.made ++ ys → Alike shown told u v xs ys
 edits-same edit t shown told u v p q xs ys h =
     let one = edit-same p.id q.id (edit_of edit p.id t) (edit_of edit q.id t) p.made q.made xs ys (edit-asks edit t p.id q.id) p.asked q.asked h in
-    (p.silent ∙ sym q.silent, tree-same (change t q.made) u v (ap (change t) (sym one.0) ∙ p.changed) q.changed, one.1)
+    (shown-same shown told (p.silent ∙ sym q.silent), tree-same (change t q.made) u v (ap (change t) (sym one.0) ∙ p.changed) q.changed, one.1)
 
 -- a tree with these numbers in a box is one tree
 module _ (path : List ℕ) (array : ArrayView) (from to : List ℕ) (numbers : List ℤ) (t u v : Tree) (a : IsTreeWith path array from to numbers t u) (b : IsTreeWith path array from to numbers t v) where
@@ -130,28 +137,31 @@ puts-same place numbers t shown told u v p q =
     with-one place.path q.array place.from place.to numbers t u v (subst (λ (x : ArrayView). IsTreeWith place.path x place.from place.to numbers t u) array p.box) q.box
 
 changed-same : (edit : EditCall) (t : Tree) (shown told : List Shown) (u v : Tree) (p : Changed edit t shown u) (q : Changed edit t told v) (xs ys : List Id8) → edit_ids edit t shown u p ++ xs ≡ edit_ids edit t told v q ++ ys → Alike shown told u v xs ys
-changed-same (E.Put place numbers) t shown told u v p q xs ys h = (p.silent ∙ sym q.silent, puts-same place numbers t shown told u v p q, h)
+changed-same (E.Put place numbers) t shown told u v p q xs ys h = (shown-same shown told (p.silent ∙ sym q.silent), puts-same place numbers t shown told u v p q, h)
 changed-same edit t shown told u v p q xs ys h = edits-same edit t shown told u v p q xs ys h
 
 does-same : (line : ℕ) (call : Call) (t : Tree) (shown told : List Shown) (u v : Tree) (p : Does line call t shown u) (q : Does line call t told v) (xs ys : List Id8)
     → id_given line call t shown u p ++ xs ≡ id_given line call t told v q ++ ys → Alike shown told u v xs ys
 does-same line (C.Edit edit) t shown told u v p q xs ys h = changed-same edit t shown told u v p q xs ys h
-does-same line (C.Read read) t shown told u v p q xs ys h = (some-same shown told (sym p.0 ∙ q.0), p.1 ∙ sym q.1, h)
+does-same line (C.Read read) t shown told u v p q xs ys h = (shown-same shown told (some-same shown told (sym p.0 ∙ q.0)), p.1 ∙ sym q.1, h)
 does-same line (C.Commit message) t shown told u v p q xs ys h = absurd p
-does-same line (C.Ref call) t shown told u v p q xs ys h = (p.0 ∙ sym q.0, p.1 ∙ sym q.1, h)
-does-same line (C.Prop name value) t shown told u v p q xs ys h = (p.0 ∙ sym q.0, p.1 ∙ sym q.1, h)
+does-same line (C.Ref call) t shown told u v p q xs ys h = (shown-same shown told (p.0 ∙ sym q.0), p.1 ∙ sym q.1, h)
+does-same line (C.Prop name value) t shown told u v p q xs ys h = (shown-same shown told (p.0 ∙ sym q.0), p.1 ∙ sym q.1, h)
+does-same line C.Lease t shown told u v p q xs ys h = (ap (map but_leases) p.2 ∙ sym (ap (map but_leases) q.2), p.3 ∙ sym q.3, h)
 
 -- ---- lines
 pub plays-law : PlaysLaw
 unfolding Plays ids_given
-plays-law [] t shown told u v p q h = (p.0 ∙ sym q.0, p.1 ∙ sym q.1)
+plays-law [] t shown told u v p q h = (shown-same shown told (p.0 ∙ sym q.0), p.1 ∙ sym q.1)
 plays-law (l ∷ ls) t shown told u v p q h =
     let one = does-same l.number l.call t p.0 q.0 p.2 q.2 p.4 q.4 (ids_given ls p.2 p.1 u p.5) (ids_given ls q.2 q.1 v q.5) h in
     let more =
-    subst (λ (m : Tree). (r : Plays ls m q.1 v) → ids_given ls p.2 p.1 u p.5 ≡ ids_given ls m q.1 v r → (p.1 ≡ q.1) × (u ≡ v)) one.1
+    subst (λ (m : Tree). (r : Plays ls m q.1 v) → ids_given ls p.2 p.1 u p.5 ≡ ids_given ls m q.1 v r → AreShown p.1 q.1 × (u ≡ v)) one.1
     (λ r k. plays-law ls p.2 p.1 q.1 u v p.5 r k) q.5 one.2
     in
-    (p.3 ∙ (λ i. one.0 i ++ more.0 i) ∙ sym q.3, more.1)
+    let first = shown-same shown (p.0 ++ p.1) p.3 ∙ map-append but_leases p.0 p.1 in
+    let second = shown-same told (q.0 ++ q.1) q.3 ∙ map-append but_leases q.0 q.1 in
+    (first ∙ (λ i. one.0 i ++ more.0 i) ∙ sym second, more.1)
 
 -- ---- the commits of others
 pass-one : (policy : Policy) (c : Changes) (l : Link) (t u : Tree) (d e : Changes) → Passes policy c l t u d → Passes policy c l t u e → d ≡ e

@@ -19,7 +19,7 @@ use Rattle.play_script.specs.declared.scripts.Line.{Line}
 use Rattle.play_script.specs.declared.scripts.Task.{Task}
 use Rattle.play_outcome.specs.declared.outcome.Shown.{Shown}
 use Rattle.play_tasks.specs.Bases.{MadeAlone}
-use Rattle.play_tasks.specs.Lines.{Deed, Goes, Sets, Reads, Puts, Gathers, Commits, deed}
+use Rattle.play_tasks.specs.Lines.{Deed, Goes, Sets, Reads, Puts, Gathers, Leases, Commits, deed}
 use Rattle.play_tasks.specs.Playing.{policy_of}
 use Rattle.play_tasks.specs.Solving.{DidPlay, PlaysAll, WasRebased, WasCarried, IsOfTask}
 
@@ -31,6 +31,7 @@ box_put client (Sets path index bytes) s start shown t journal did = []
 box_put client (Reads path index show) s start shown t journal did = []
 box_put client (Puts path from to numbers) s start shown t journal did = did.1.chunks
 box_put client (Gathers path from to show) s start shown t journal did = []
+box_put client (Leases show) s start shown t journal did = []
 box_put client (Commits message) s start shown t journal did = []
 
 -- the same of lines, for each in its turn

@@ -1,7 +1,8 @@
 -- That what lines do is determined, and what is left of changes, in words of trees. (Own.)
-use Rattle.std.specs.Prelude.{◌≡◌, ℕ, List, [], ◌∷◌, ◌++◌, Option}
+use Rattle.std.specs.Prelude.{◌≡◌, ℕ, List, [], ◌∷◌, ◌++◌, map, Option, None}
 use Rattle.ice_ids.specs.declared.Id8.{Id8}
 use Rattle.ice_ids.specs.declared.Id12.{Id12}
+use Rattle.ice_ids.specs.Text.{initial_id}
 use Rattle.zarr_tree.specs.Trees.{Tree}
 use Rattle.zarr_tree.specs.Changes.{Changes}
 use Rattle.zarr_tree.specs.Edits.{Edit, Add, SetMeta, Drop, Set, Unset}
@@ -13,6 +14,7 @@ use Rattle.script_calls.specs.declared.calls.Call.{Call}
 use Rattle.script_calls.specs.declared.calls.Call.TheVariants as C
 use Rattle.play_script.specs.declared.scripts.Line.{Line}
 use Rattle.play_outcome.specs.declared.outcome.Shown.{Shown}
+use Rattle.play_outcome.specs.declared.outcome.Shown.TheVariants.{Lease as Shown_lease}
 use Rattle.run_promise.specs.Lines.{Changed, Does, Plays}
 use Rattle.run_promise.specs.Ways.{Carried, stays, over}
 
@@ -35,6 +37,7 @@ id_given line (C.Read read) t shown u did = []
 id_given line (C.Commit message) t shown u did = []
 id_given line (C.Ref call) t shown u did = []
 id_given line (C.Prop name value) t shown u did = []
+id_given line C.Lease t shown u did = []
 
 -- the ids that lines gave the nodes that they added, one after another
 unfoldable pub ids_given : (lines : List Line) (t : Tree) (shown : List Shown) (u : Tree) → Plays lines t shown u → List Id8
@@ -42,9 +45,14 @@ unfolding Plays
 ids_given [] t shown u played = []
 ids_given (l ∷ ls) t shown u played = id_given l.number l.call t played.0 played.2 played.4 ++ ids_given ls played.2 played.1 u played.5
 
--- Lines that are played on one tree, and give the nodes that they add the same ids, show the same and lead to the same tree.
+-- what is shown, whichever lease was put, and whether or not it was left
+abbrev pub but_leases : Shown → Shown
+but_leases (Shown_lease line id left) = Shown_lease line initial_id None
+but_leases shown = shown
+
+-- Lines that are played on one tree, and give the nodes that they add the same ids, show the same, but for which leases they put, and lead to the same tree.
 abbrev pub PlaysLaw : Type 0
-PlaysLaw = (lines : List Line) (t : Tree) (shown told : List Shown) (u v : Tree) → (p : Plays lines t shown u) (q : Plays lines t told v) → ids_given lines t shown u p ≡ ids_given lines t told v q → (shown ≡ told) × (u ≡ v)
+PlaysLaw = (lines : List Line) (t : Tree) (shown told : List Shown) (u v : Tree) → (p : Plays lines t shown u) (q : Plays lines t told v) → ids_given lines t shown u p ≡ ids_given lines t told v q → (map but_leases shown ≡ map but_leases told) × (u ≡ v)
 
 -- ---- the commits of others
 -- the commits over which changes were carried, the first one first

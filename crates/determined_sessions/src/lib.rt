@@ -19,8 +19,8 @@ pub fn sessions_law()
     ensures solved { SolvedLaw }
 {}
 
-/// In words of trees: what lines show and the tree that they lead to are determined by the ids of the nodes that they add; and
-/// what is left of changes over the commits of others by these commits.
+/// In words of trees: what lines show, but for which leases they put, and the tree that they lead to are determined by the ids
+/// of the nodes that they add; and what is left of changes over the commits of others by these commits.
 pub fn trees_law()
     ensures plays { PlaysLaw }
     ensures carried { CarriedLaw }

@@ -51,17 +51,16 @@ fn compare_listed(
     changes: &Changes,
     id: &Id8,
 ) -> Result<(), Stop> {
+    let mut alike = true;
     let mut at: usize = 0;
     for index in places.indices.as_slice() {
         if let Some(bytes) = changes.entry(id, index) {
-            expect(
-                is_entry(rows.get(at), index, bytes),
-                "an entry that is listed",
-            )?;
+            alike &= is_entry(rows.get(at), index, bytes);
             at = at.saturating_add(1);
         }
     }
-    expect(at == rows.len(), "the number of entries")
+    let same_number = expect(at == rows.len(), "the number of entries");
+    expect(alike, "an entry that is listed").and(same_number)
 }
 
 /// Stops where a node has other entries in the set.
@@ -86,16 +85,18 @@ fn compare_arrays(
     under: &Nodes,
 ) -> Result<(), Stop> {
     let mut arrays = arrays.iter();
+    let mut alike: Result<(), Stop> = Ok(());
     for path in places.paths.as_slice() {
         if let Some(found) = found_in(under, path.as_str()) {
             if let Some(rank) = changed_rank(changes, found) {
-                let alike = is_array(arrays.next(), path, &found.id, rank);
-                expect(alike, "a changed array")?;
-                compare_entries(alloc, places, set, changes, &found.id)?;
+                let listed = is_array(arrays.next(), path, &found.id, rank);
+                let entries = compare_entries(alloc, places, set, changes, &found.id);
+                alike = alike.and(expect(listed, "a changed array")).and(entries);
             }
         }
     }
-    expect(arrays.next().is_none(), "the number of changed arrays")
+    let same_number = expect(arrays.next().is_none(), "the number of changed arrays");
+    alike.and(same_number)
 }
 
 /// Stops where the arrays that have entries differ, or the entries of one as they are listed.

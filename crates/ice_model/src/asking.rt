@@ -1,8 +1,8 @@
 //! Whether an edit would be refused.
 
+use crate::drawing::set_edit;
 use crate::stops::{Stop, expect};
 use ice_ids::Id8;
-use ice_items::Items;
 use std::alloc::Global;
 use tree_model::{Edit, Nodes, refusal};
 use zarr_changes::ChangeSet;
@@ -49,11 +49,7 @@ pub fn compare_may_set<B: TreeLike>(
     path: &Path,
     index: &Index,
 ) -> Result<(), Stop> {
-    let edit = Edit::Set {
-        path: path.copy(alloc)?,
-        index: index.copy(alloc)?,
-        bytes: Items::from_vec(Vec::from_slice(alloc, &ASKED)?),
-    };
+    let edit = set_edit(alloc, path, index.parts(), &ASKED)?;
     let by_model = refusal(under, &edit);
     drop(edit);
     let answer = set.may_set(base, path, index, ASKED.len() as u64);

@@ -39,9 +39,9 @@ impl Base {
 
     /// One more edit of the tree.
     pub fn edit(&mut self, alloc: Global, edit: Edit) -> Result<(), AllocError> {
-        change(alloc, &mut self.tree, &edit)?;
+        let changed = change(alloc, &mut self.tree, &edit);
         self.edits.push(edit)?;
-        Ok(())
+        changed
     }
 
     /// The same tree once more, made of the same edits.

@@ -12,12 +12,12 @@ use crate::nodes::compare_nodes;
 use crate::places::Places;
 use crate::sides::Side;
 use crate::stops::Stop;
-use crate::telling::push_edit;
+use crate::telling::{push_all, push_edit};
 use crate::trees::compare_trees;
 use crate::words::Range;
-use std::alloc::Global;
+use std::alloc::{AllocError, Global};
 use std::io;
-use tree_model::{Tree, Under};
+use tree_model::{Edit, Tree, Under};
 
 /// A base, behind its root, and a side are made of fewer edits than these.
 const MOST_EDITS: u32 = 14;
@@ -42,6 +42,18 @@ struct Made {
     told: String,
 }
 
+/// Tells an edit, and makes it of a base.
+fn tell_and_edit(
+    alloc: Global,
+    told: &mut String,
+    base: &mut Base,
+    edit: Edit,
+) -> Result<(), AllocError> {
+    let pushed = push_edit(told, &edit);
+    base.edit(alloc, edit)?;
+    pushed
+}
+
 impl Made {
     /// A case of which nothing is drawn yet.
     fn new(alloc: Global, number: u64) -> Made {
@@ -58,15 +70,13 @@ impl Made {
     /// The root group of a base.
     fn root(&mut self, alloc: Global, base: &mut Base) -> Result<(), Stop> {
         let edit = root(alloc, &mut self.numbers)?;
-        push_edit(&mut self.told, &edit)?;
-        Ok(base.edit(alloc, edit)?)
+        Ok(tell_and_edit(alloc, &mut self.told, base, edit)?)
     }
 
     /// One more edit of a base.
     fn edit_base(&mut self, alloc: Global, base: &mut Base) -> Result<(), Stop> {
         let edit = draw_for(alloc, &mut self.dice, &mut self.numbers, &base.tree.nodes)?;
-        push_edit(&mut self.told, &edit)?;
-        Ok(base.edit(alloc, edit)?)
+        Ok(tell_and_edit(alloc, &mut self.told, base, edit)?)
     }
 
     /// A base.
@@ -94,9 +104,10 @@ impl Made {
         let drawn = draw_for(alloc, &mut self.dice, &mut self.numbers, &under);
         drop(under);
         let edit = drawn?;
-        push_edit(&mut self.told, &edit)?;
+        let told = push_edit(&mut self.told, &edit);
         let done = side.edit(alloc, base, &edit, self.numbers.fresh);
         drop(edit);
+        told?;
         counts.count_edit(done?);
         Ok(())
     }
@@ -105,8 +116,11 @@ impl Made {
     fn set_all(&mut self, alloc: Global, base: &Tree, side: &mut Side) -> Result<(), Stop> {
         let path = draw_path(alloc, &mut self.dice)?;
         let bytes = [self.dice.below(3) as u8, 7];
-        write!(self.told, "  set all of {path} to {bytes:?}\n")?;
-        side.set_all(alloc, base, &path, &bytes, self.numbers.fresh)
+        let told = push_all(&mut self.told, &path, &bytes);
+        let set = side.set_all(alloc, base, &path, &bytes, self.numbers.fresh);
+        drop(path);
+        told?;
+        set
     }
 
     /// Makes an edit, or sets all chunks of an array, and now and then compares all.
@@ -118,13 +132,14 @@ impl Made {
         side: &mut Side,
         counts: &mut Counts,
     ) -> Result<(), Stop> {
-        if self.dice.below(BOXES) == 0 {
-            self.set_all(alloc, base, side)?;
+        let made = if self.dice.below(BOXES) == 0 {
+            self.set_all(alloc, base, side)
         } else {
-            self.edit(alloc, base, side, counts)?;
-        }
+            self.edit(alloc, base, side, counts)
+        };
+        made?;
         if self.dice.below(LOOKS) == 0 {
-            compare_side(alloc, places, base, side, self.numbers.fresh)?;
+            return compare_side(alloc, places, base, side, self.numbers.fresh);
         }
         Ok(())
     }
@@ -175,12 +190,18 @@ fn compare_under(
     side: &Side,
     under: &Under<'_>,
 ) -> Result<(), Stop> {
-    compare_nodes(alloc, places, base, &side.set, &under.nodes)?;
-    compare_chunks(places, &side.set, &side.changes, &under.nodes)?;
-    compare_chunks(places, &side.set, &side.changes, &base.nodes)?;
-    compare_changed(alloc, places, base, &side.set, &side.changes, &under.nodes)?;
-    compare_keys(alloc, &side.set, &side.changes)?;
-    compare_touched(alloc, base, &side.set, &side.changes)
+    let nodes = compare_nodes(alloc, places, base, &side.set, &under.nodes);
+    let entries = compare_chunks(places, &side.set, &side.changes, &under.nodes);
+    let base_entries = compare_chunks(places, &side.set, &side.changes, &base.nodes);
+    let arrays = compare_changed(alloc, places, base, &side.set, &side.changes, &under.nodes);
+    let keys = compare_keys(alloc, &side.set, &side.changes);
+    let touched = compare_touched(alloc, base, &side.set, &side.changes);
+    nodes
+        .and(entries)
+        .and(base_entries)
+        .and(arrays)
+        .and(keys)
+        .and(touched)
 }
 
 /// Stops where the changes of a side, or what they come to, differ.
@@ -192,10 +213,14 @@ fn compare_side(
     fresh: bool,
 ) -> Result<(), Stop> {
     let under = side.changes.apply(alloc, base)?;
-    if fresh {
-        compare_trees(places, &under, &side.tree)?;
-    }
-    compare_under(alloc, places, base, side, &under)
+    let trees = if fresh {
+        compare_trees(places, &under, &side.tree)
+    } else {
+        Ok(())
+    };
+    let compared = compare_under(alloc, places, base, side, &under);
+    drop(under);
+    trees.and(compared)
 }
 
 /// Stops where our changes differ over the other side's tree.
@@ -206,7 +231,9 @@ fn compare_over(
     after: &Under<'_>,
 ) -> Result<(), Stop> {
     let under = ours.changes.nodes_under(alloc, &after.nodes)?;
-    compare_nodes(alloc, places, after, &ours.set, &under)
+    let compared = compare_nodes(alloc, places, after, &ours.set, &under);
+    drop(under);
+    compared
 }
 
 /// Stops where our changes differ over the other side's tree, or in their conflicts with what the other side touched.
@@ -219,8 +246,10 @@ fn compare_with(
     counts: &mut Counts,
 ) -> Result<(), Stop> {
     let after = theirs.changes.apply(alloc, base)?;
-    compare_over(alloc, places, ours, &after)?;
-    compare_conflicts(alloc, places, base, ours, theirs, &after, counts)
+    let over = compare_over(alloc, places, ours, &after);
+    let conflicts = compare_conflicts(alloc, places, base, ours, theirs, &after, counts);
+    drop(after);
+    over.and(conflicts)
 }
 
 /// Stops where two sides differ in what they do to one another.
@@ -232,8 +261,8 @@ fn compare_sides(
     other: &Side,
     counts: &mut Counts,
 ) -> Result<(), Stop> {
-    compare_with(alloc, places, base, side, other, counts)?;
-    compare_with(alloc, places, base, other, side, counts)
+    let ours = compare_with(alloc, places, base, side, other, counts);
+    ours.and(compare_with(alloc, places, base, other, side, counts))
 }
 
 /// Says how a case came out, and whether code and model agree.
@@ -271,11 +300,14 @@ fn tell<R: Print + AllocGlobal>(rt: &R, counts: &Counts) -> io::Result<()> {
 }
 
 /// Compares cases, one after another, up to the first that differs, and says whether there was none.
-pub fn compare_all<R: Print + AllocGlobal>(rt: &R, range: Range) -> io::Result<bool> {
-    let places = Places::new(rt.alloc())?;
+fn compare_range<R: Print + AllocGlobal>(
+    rt: &R,
+    places: &Places,
+    range: Range,
+) -> io::Result<bool> {
     let mut counts = Counts::new();
     for step in 0..range.count {
-        if !compare_case(rt, &places, range.first.wrapping_add(step), &mut counts)? {
+        if !compare_case(rt, places, range.first.wrapping_add(step), &mut counts)? {
             return Ok(false);
         }
         if counts.cases % OFTEN == 0 {
@@ -284,4 +316,12 @@ pub fn compare_all<R: Print + AllocGlobal>(rt: &R, range: Range) -> io::Result<b
     }
     tell(rt, &counts)?;
     Ok(true)
+}
+
+/// Compares cases as `compare_range` does, at all places.
+pub fn compare_all<R: Print + AllocGlobal>(rt: &R, range: Range) -> io::Result<bool> {
+    let places = Places::new(rt.alloc())?;
+    let compared = compare_range(rt, &places, range);
+    drop(places);
+    compared
 }

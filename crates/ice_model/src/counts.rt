@@ -7,7 +7,7 @@ use std::alloc::{AllocError, Global};
 use zarr_tree::Case;
 
 /// What was compared so far. At its end a count stands still.
-#[derive(Clone, Copy, Debug)]
+#[derive(Clone, Copy)]
 pub struct Counts {
     /// The cases.
     pub cases: u64,

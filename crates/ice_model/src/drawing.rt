@@ -32,7 +32,7 @@ const AGAIN: u32 = 24;
 const DRAWS: u32 = 24;
 
 /// The ids that were drawn.
-#[derive(Clone, Copy, Debug)]
+#[derive(Clone, Copy)]
 pub struct Numbers {
     /// How many there were.
     pub drawn: u32,
@@ -61,7 +61,7 @@ fn draw_id(dice: &mut Dice, numbers: &mut Numbers) -> Id8 {
 pub fn path_of(alloc: Global, text: &str) -> Result<Path, AllocError>
     ensures { IfOk result (λ path. path ≡ text.now) }
 {
-    Path::read(alloc, text).map_err(|_| AllocError)
+    Path::read(alloc, text).ok().ok_or(AllocError)
 }
 
 /// The index of these numbers.
@@ -71,12 +71,23 @@ pub fn index_of(alloc: Global, numbers: &[u32]) -> Result<Index, AllocError>
     Ok(Index::from_parts(Vec::from_slice(alloc, numbers)?))
 }
 
+/// The edit that sets a chunk.
+pub fn set_edit(
+    alloc: Global,
+    path: &Path,
+    numbers: &[u32],
+    bytes: &[u8],
+) -> Result<Edit, AllocError> {
+    Ok(Edit::Set {
+        path: path.copy(alloc)?,
+        index: index_of(alloc, numbers)?,
+        bytes: Items::from_vec(Vec::from_slice(alloc, bytes)?),
+    })
+}
+
 /// A path.
 pub fn draw_path(alloc: Global, dice: &mut Dice) -> Result<Path, AllocError> {
-    path_of(
-        alloc,
-        dice.one_of(PATHS.as_slice()).map_or("/", |text| *text),
-    )
+    path_of(alloc, dice.one_of(PATHS.as_slice()).copied().unwrap_or("/"))
 }
 
 /// The index of a chunk: that of the first one of a line mostly.
@@ -84,10 +95,8 @@ fn draw_index(alloc: Global, dice: &mut Dice) -> Result<Index, AllocError> {
     if dice.below(2) == 0 {
         return index_of(alloc, FIRST);
     }
-    let numbers = dice
-        .one_of(INDICES.as_slice())
-        .map_or(FIRST, |numbers| *numbers);
-    index_of(alloc, numbers)
+    let numbers = dice.one_of(INDICES.as_slice());
+    index_of(alloc, numbers.copied().unwrap_or(FIRST))
 }
 
 /// The metadata of an array.
@@ -98,20 +107,22 @@ fn array(
     chunks: &[u64],
     fill: i128,
 ) -> Result<Meta, AllocError> {
-    Meta::plain_array(alloc, kind, shape, chunks, fill).map_err(|_| AllocError)
+    Meta::plain_array(alloc, kind, shape, chunks, fill)
+        .ok()
+        .ok_or(AllocError)
 }
 
 /// The metadata of a group that has an attribute.
 fn noted(alloc: Global) -> Result<Meta, AllocError> {
-    Meta::read(alloc, NOTED).map_err(|_| AllocError)
+    Meta::read(alloc, NOTED).ok().ok_or(AllocError)
 }
 
 /// Metadata: groups, and arrays that differ in what stays, or in what may change.
 fn draw_meta(alloc: Global, dice: &mut Dice) -> Result<Meta, AllocError> {
     match dice.below(14) {
-        0 | 1 | 2 | 3 => Meta::plain_group(alloc),
+        0..=3 => Meta::plain_group(alloc),
         4 => noted(alloc),
-        5 | 6 | 7 | 11 | 12 => array(alloc, IntKind::Uint8, &[4], &[2], 0),
+        5..=7 | 11 | 12 => array(alloc, IntKind::Uint8, &[4], &[2], 0),
         8 => array(alloc, IntKind::Uint8, &[6], &[2], 0),
         9 => array(alloc, IntKind::Uint8, &[2], &[2], 1),
         10 => array(alloc, IntKind::Int16, &[4], &[1], 0),
@@ -146,15 +157,15 @@ fn draw_addition(
 /// An edit.
 fn draw_edit(alloc: Global, dice: &mut Dice, numbers: &mut Numbers) -> Result<Edit, AllocError> {
     match dice.below(20) {
-        0 | 1 | 2 | 3 | 4 => draw_addition(alloc, dice, numbers),
-        5 | 6 | 7 => Ok(Edit::SetMeta {
+        0..=4 => draw_addition(alloc, dice, numbers),
+        5..=7 => Ok(Edit::SetMeta {
             path: draw_path(alloc, dice)?,
             meta: draw_meta(alloc, dice)?,
         }),
         8 => Ok(Edit::Drop {
             path: draw_path(alloc, dice)?,
         }),
-        9 | 10 | 11 | 12 | 13 | 14 | 15 | 16 => Ok(Edit::Set {
+        9..=16 => Ok(Edit::Set {
             path: draw_path(alloc, dice)?,
             index: draw_index(alloc, dice)?,
             bytes: draw_bytes(alloc, dice)?,

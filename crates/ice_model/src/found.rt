@@ -137,14 +137,11 @@ impl<'a> Both<'a> {
         case: Case,
         path: &Path,
     ) -> Result<usize, Stop> {
-        let mut at = at;
-        if self.compare_one(alloc, at, case, path, None)? {
-            at = at.saturating_add(1);
-        }
+        let is = self.compare_one(alloc, at, case, path, None)?;
+        let mut at = at.saturating_add(usize::from(is));
         for index in self.places.indices.as_slice() {
-            if self.compare_one(alloc, at, case, path, Some(index))? {
-                at = at.saturating_add(1);
-            }
+            let is = self.compare_one(alloc, at, case, path, Some(index))?;
+            at = at.saturating_add(usize::from(is));
         }
         Ok(at)
     }
@@ -204,15 +201,10 @@ fn compare_all(
     after: &Nodes,
 ) -> Result<(), Stop> {
     let touched = theirs.changes.touched(alloc, base)?;
-    compare_found(
-        alloc,
-        places,
-        found,
-        &ours.changes,
-        &touched,
-        &base.nodes,
-        after,
-    )
+    let mine = &ours.changes;
+    let compared = compare_found(alloc, places, found, mine, &touched, &base.nodes, after);
+    drop(touched);
+    compared
 }
 
 /// Counts conflicts.

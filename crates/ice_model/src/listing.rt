@@ -125,6 +125,15 @@ fn is_untouched(lists: &Touched) -> bool {
         && lists.updated_chunks.is_empty()
 }
 
+/// Stops where two lists of what is touched differ, or it differs whether they are empty.
+fn compare_both(net: &Touched, is_empty: bool, touched: &Touched) -> Result<(), Stop>
+    ensures { OnOk result (SameLists net.now touched.now) }
+{
+    let alike = is_empty == is_untouched(touched);
+    expect(alike, "whether nothing is touched")?;
+    compare_lists(net, touched)
+}
+
 /// Stops where these aren't the lists of what the changes touch, or it differs whether they are empty.
 fn compare_net(
     alloc: Global,
@@ -136,11 +145,9 @@ fn compare_net(
     ensures { OnOk result (TouchesAlike net.now (changes_of changes.now) (tree_of base.now)) }
 {
     let touched = changes.touched(alloc, base)?;
-    expect(
-        is_empty == is_untouched(&touched),
-        "whether nothing is touched",
-    )?;
-    compare_lists(net, &touched)
+    let compared = compare_both(net, is_empty, &touched);
+    drop(touched);
+    compared
 }
 
 /// Stops where it differs what the changes touch.
@@ -154,7 +161,9 @@ pub fn compare_touched(
         (tree_of base.now)) }
 {
     let net = set.net(alloc, base)?;
-    compare_net(alloc, base, &net, set.is_empty(base), changes)
+    let compared = compare_net(alloc, base, &net, set.is_empty(base), changes);
+    drop(net);
+    compared
 }
 
 /// The nodes that have other metadata.
@@ -174,27 +183,27 @@ fn has_key(keys: &[ChunkKey], node: &Id8, index: &Index) -> bool {
 
 /// Stops where the chunks that have entries differ.
 fn compare_keys_of_chunks(keys: &[ChunkKey], changes: &Changes) -> Result<(), Stop> {
+    let mut held = true;
     for key in keys {
-        expect(
-            changes.entry(&key.0, &key.1).is_some(),
-            "the key of an entry",
-        )?;
+        held &= changes.entry(&key.0, &key.1).is_some();
     }
+    let mut keyed = true;
     for row in changes.chunks.as_slice() {
-        expect(has_key(keys, &row.0, &row.1), "a key that an entry has")?;
+        keyed &= has_key(keys, &row.0, &row.1);
     }
-    Ok(())
+    expect(held, "the key of an entry").and(expect(keyed, "a key that an entry has"))
 }
 
 /// Stops where the added paths differ.
 fn compare_added(keys: &ChangeKeys, set: &ChangeSet, changes: &Changes) -> Result<(), Stop> {
     let number = changes.added.len();
-    expect(keys.added.len() == number, "the number of added paths")?;
-    expect(set.added_len() == number, "the number of added nodes")?;
+    let paths = expect(keys.added.len() == number, "the number of added paths");
+    let nodes = expect(set.added_len() == number, "the number of added nodes");
+    let mut alike = true;
     for path in keys.added.as_slice() {
-        expect(changes.added.find(path.as_str()).is_some(), "an added path")?;
+        alike &= changes.added.find(path.as_str()).is_some();
     }
-    Ok(())
+    paths.and(nodes).and(expect(alike, "an added path"))
 }
 
 /// Stops where the ids with other metadata differ.

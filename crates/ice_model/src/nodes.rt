@@ -46,12 +46,12 @@ fn compare_at<B: TreeLike>(
     under: &Nodes,
     path: &Path,
 ) -> Result<(), Stop> {
-    compare_beneath(alloc, places, base, set, under, path)?;
-    compare_may_add(alloc, base, set, under, path)?;
+    let beneath = compare_beneath(alloc, places, base, set, under, path);
+    let mut alike = beneath.and(compare_may_add(alloc, base, set, under, path));
     for index in places.indices.as_slice() {
-        compare_may_set(alloc, base, set, under, path, index)?;
+        alike = alike.and(compare_may_set(alloc, base, set, under, path, index));
     }
-    Ok(())
+    alike
 }
 
 /// Stops where the nodes of a base under changes differ, or what is asked of them.
@@ -66,10 +66,10 @@ pub fn compare_nodes<B: TreeLike>(
         (IsTrue (same_nodes places.now.paths (nodes_over set.now (B.nodes base.now)) under.now)) }
 {
     expect(same_nodes(places, base, set, under), "a look-up")?;
-    compare_rows(base, set, under)?;
-    compare_paths(alloc, places, base, set, under)?;
+    let rows = compare_rows(base, set, under);
+    let mut alike = rows.and(compare_paths(alloc, places, base, set, under));
     for path in places.paths.as_slice() {
-        compare_at(alloc, places, base, set, under, path)?;
+        alike = alike.and(compare_at(alloc, places, base, set, under, path));
     }
-    Ok(())
+    alike
 }

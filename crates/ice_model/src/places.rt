@@ -8,7 +8,7 @@ use std::alloc::{AllocError, Global};
 use zarr_path::{Index, Path};
 
 /// All paths and all indices that are drawn.
-#[derive(Debug, Drop)]
+#[derive(Drop)]
 pub struct Places {
     /// The paths.
     pub paths: Items<Path>,

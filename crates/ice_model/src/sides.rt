@@ -7,13 +7,13 @@ ghost use Rattle.tree_model.specs.Models.{changes_of, edit_of, tree_of};
 ghost use Rattle.ice_model.specs.Editing.{answered, Extended, Entered};
 
 use crate::bases::Base;
-use crate::drawing::{INDICES, index_of};
+use crate::drawing::{INDICES, index_of, set_edit};
 use crate::entering::enter;
 use crate::stops::{Stop, expect};
 use ice_base::Bytes;
-use ice_items::Items;
 use manifest_file::Place;
 use std::alloc::{AllocError, Global};
+use std::mem;
 use tree_model::{Changes, Edit, Tree};
 use zarr_changes::{ChangeSet, Placed};
 use zarr_path::Path;
@@ -61,15 +61,6 @@ fn same_answer(answer: Option<EditFault>, other: Option<EditFault>) -> bool
     }
 }
 
-/// The edit that sets a chunk.
-fn set_edit(alloc: Global, path: &Path, numbers: &[u32], bytes: &[u8]) -> Result<Edit, AllocError> {
-    Ok(Edit::Set {
-        path: path.copy(alloc)?,
-        index: index_of(alloc, numbers)?,
-        bytes: Items::from_vec(Vec::from_slice(alloc, bytes)?),
-    })
-}
-
 /// One chunk more, with the place of its bytes.
 fn push_placed(
     alloc: Global,
@@ -89,10 +80,11 @@ impl Side {
     pub fn new(alloc: Global, base: &Base) -> Result<Side, AllocError>
         ensures { IfOk result (λ side. (side.set ≡ nothing) × (changes_of side.changes ≡ none)) }
     {
+        let tree = base.tree_again(alloc)?;
         Ok(Side {
             set: ChangeSet::new(alloc),
             changes: Changes::new(alloc),
-            tree: base.tree_again(alloc)?,
+            tree,
         })
     }
 
@@ -218,7 +210,8 @@ impl Side {
     pub fn copy_set(&mut self, alloc: Global) -> Result<(), AllocError>
         ensures { self.new.set ≡ self.old.set }
     {
-        self.set = self.set.copy(alloc)?;
+        let copy = self.set.copy(alloc)?;
+        drop(mem::replace(&mut self.set, copy));
         Ok(())
     }
 }

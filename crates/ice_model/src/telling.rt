@@ -3,6 +3,7 @@
 use std::alloc::AllocError;
 use tree_model::Edit;
 use zarr_meta::{Meta, View};
+use zarr_path::Path;
 
 /// Appends what metadata says.
 fn push_meta(told: &mut String, meta: &Meta) -> Result<(), AllocError> {
@@ -48,4 +49,9 @@ pub fn push_edit(told: &mut String, edit: &Edit) -> Result<(), AllocError> {
     told.push_str("  ")?;
     push_words(told, edit)?;
     told.push_str("\n")
+}
+
+/// Appends a line that all chunks at a path are set.
+pub fn push_all(told: &mut String, path: &Path, bytes: &[u8]) -> Result<(), AllocError> {
+    write!(told, "  set all of {path} to {bytes:?}\n")
 }

@@ -25,10 +25,12 @@ fn same_row(row: Option<(&str, Found<'_>)>, other: Option<(&str, Found<'_>)>) ->
 pub fn compare_rows<B: TreeLike>(base: &B, set: &ChangeSet, under: &Nodes) -> Result<(), Stop> {
     let mut overlay = set.over(base);
     let mut rows = under.rows();
+    let mut alike = true;
     for _ in 0..under.len() {
-        expect(same_row(overlay.next(), rows.next()), "a row")?;
+        alike &= same_row(overlay.next(), rows.next());
     }
-    expect(same_row(overlay.next(), rows.next()), "the number of rows")
+    let at_end = same_row(overlay.next(), rows.next());
+    expect(alike, "a row").and(expect(at_end, "the number of rows"))
 }
 
 /// Whether this is a path.
@@ -42,12 +44,14 @@ fn is_path(listed: Option<&Path>, path: &Path) -> bool {
 /// Stops where the paths, as they are listed, differ.
 fn compare_listed(places: &Places, listed: &[Path], under: &Nodes) -> Result<(), Stop> {
     let mut listed = listed.iter();
+    let mut alike = true;
     for path in places.paths.as_slice() {
         if found_in(under, path.as_str()).is_some() {
-            expect(is_path(listed.next(), path), "a path")?;
+            alike &= is_path(listed.next(), path);
         }
     }
-    expect(listed.next().is_none(), "the number of paths")
+    let at_end = listed.next().is_none();
+    expect(alike, "a path").and(expect(at_end, "the number of paths"))
 }
 
 /// Stops where the paths differ.
@@ -88,14 +92,16 @@ fn compare_rows_beneath(
     under: &Nodes,
     of: &Path,
 ) -> Result<(), Stop> {
+    let mut alike = true;
     let mut at: usize = 0;
     for path in places.paths.as_slice() {
         if let Some(found) = found_beneath(under, of, path) {
-            expect(is_row(rows.get(at), path, found), "a path beneath one")?;
+            alike &= is_row(rows.get(at), path, found);
             at = at.saturating_add(1);
         }
     }
-    expect(at == rows.len(), "the number of paths beneath one")
+    let same_number = expect(at == rows.len(), "the number of paths beneath one");
+    expect(alike, "a path beneath one").and(same_number)
 }
 
 /// Stops where what stands beneath a path differs.

@@ -4,7 +4,7 @@ use std::env;
 use std::rt::Env;
 
 /// Which cases are compared: so many from the first one on.
-#[derive(Clone, Copy, Debug)]
+#[derive(Clone, Copy)]
 pub struct Range {
     /// The number of the first case.
     pub first: u64,
@@ -17,14 +17,22 @@ fn number_of(word: &str) -> Option<u64> {
     word.parse::<u64>().ok()
 }
 
-/// The cases that two words name; without the second there is no end.
-fn range_of(first: &str, count: Option<&str>) -> Option<Range> {
+/// How many cases a word names; without it there is no end.
+fn count_of(word: Option<String>) -> Option<u64> {
+    match word {
+        Some(word) => number_of(word.as_str()),
+        None => Some(u64::MAX),
+    }
+}
+
+/// The cases that two words name.
+fn range_of(first: String, count: Option<String>) -> Option<Range> {
+    let from = number_of(first.as_str());
+    drop(first);
+    let count = count_of(count)?;
     Some(Range {
-        first: number_of(first)?,
-        count: match count {
-            Some(count) => number_of(count)?,
-            None => u64::MAX,
-        },
+        first: from?,
+        count,
     })
 }
 
@@ -32,10 +40,11 @@ fn range_of(first: &str, count: Option<&str>) -> Option<Range> {
 pub fn read_words<R: Env + AllocGlobal>(rt: &R) -> Option<Range> {
     let mut words = env::args(rt).ok()?;
     let _program = words.next();
-    let first = words.next()?;
+    let first = words.next();
     let count = words.next();
-    match count {
-        Some(count) => range_of(first.as_str(), Some(count.as_str())),
-        None => range_of(first.as_str(), None),
+    drop(words);
+    match first {
+        Some(first) => range_of(first, count),
+        None => None,
     }
 }

@@ -5,3 +5,4 @@ pub mod Leading
 pub mod Kept
 pub mod Confirming
 pub mod Lawful
+pub mod Following

@@ -1,4 +1,5 @@
 pub mod Plays
+pub mod Following
 pub mod Resting
 pub mod Starting
 pub mod Telling

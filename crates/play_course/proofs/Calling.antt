@@ -357,6 +357,7 @@ module _ (client : Client) (ids : AnyIds) where
   line-meets line (calls.Read look) shown next journal t go = go shown journal t
   line-meets line (calls.Commit message) shown next journal t go = go shown journal t
   line-meets line (calls.Prop name value) shown next journal t go = go shown journal t
+  line-meets line calls.Lease shown next journal t go = go shown journal t
 
   -- a task on refs ends by no strange refusal
   pub calls-meet : (lines : List Line) (shown : List Shown) (journal : List Event) → Kept journal → PlayMeets (λ o. strange_end client.collects o.end ≡ false) (beside client ids) (refs_play lines shown) journal

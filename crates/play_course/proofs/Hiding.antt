@@ -1,11 +1,12 @@
 -- No task of a run over an empty store ends by a log that hides a node: what its outcome tells of the journal says so.
-use Rattle.std.proofs.Common.{◌≡◌, ◌⊎◌, inl, inr, ℕ, Bool, true, false, cond, List, [], ◌∷◌, ◌++◌, refl, sym, ◌∙◌, ap, subst}
+use Rattle.std.proofs.Common.{◌≡◌, ◌⊎◌, inl, inr, ℕ, Bool, true, false, cond, List, [], ◌∷◌, ◌++◌, refl, sym, ◌∙◌, ap, subst, append_assoc}
 use Rattle.std.specs.Prelude.{Option, Some, None, Result, Ok, Err}
 use Rattle.std.specs.FinMap.{get}
 use Rattle.ice_ids.specs.declared.Id8.{Id8}
 use Rattle.ice_ids.specs.declared.Id12.{Id12}
 use Rattle.ice_ids.specs.declared.drawing.AnyIds.{AnyIds}
 use Rattle.ice_ids.specs.Text.{same_id12}
+use Rattle.ice_ids.specs.Drawing.{drawn12}
 use Rattle.zarr_path.specs.declared.keys.ZarrKey.{ZarrKey}
 use Rattle.zarr_path.specs.declared.keys.ZarrKey.TheVariants as zarr
 use Rattle.zarr_path.specs.Keys.{key_of}
@@ -19,19 +20,28 @@ use Rattle.conflicts.specs.declared.solving.Policy.{Policy}
 use Rattle.object_store.specs.declared.keys.Key.{Key}
 use Rattle.object_store.specs.declared.keys.Key.TheVariants.{Txn}
 use Rattle.object_store.specs.declared.events.Event.{Event}
+use Rattle.object_store.proofs.Journals.{Each-append, Each-back, Each-weaker}
 use Rattle.store_api.specs.declared.machines.Refusal.{Refusal}
 use Rattle.store_api.specs.declared.machines.Refusal.TheVariants as R
+use Rattle.store_api.specs.Journal.{Each, IsGood, IsGoodJournal}
 use Rattle.repo_read.specs.declared.resolving.At.{At}
 use Rattle.repo_read.specs.Naming as named
 use Rattle.session.specs.Sessions.{SessionState, nodes_seen}
 use Rattle.session.specs.Editing.{prop_added}
 use Rattle.commit_path.specs.Answered.{CommitTells}
 use Rattle.commit_path.specs.Opened.{RefusalTells}
+use Rattle.commit_path.specs.Single.{HasPutAlike, PutsAlike}
+use Rattle.commit_path.proofs.Knowing.{IsOpened-append}
 use Rattle.rebase.specs.Telling.{RebaseSays, WasHidden}
+use Rattle.rebase.proofs.Kept.{met-append}
+use Rattle.leases.specs.declared.witness.Witness.{Witness}
+use Rattle.leases.specs.Plays.{witness_of, lease_with}
+use Rattle.leases.specs.Starting.{lease_of}
+use Rattle.leases.specs.Telling.{LeaseTells, PlacedTells, UnplacedTells}
 use Rattle.zarr_keys.specs.Keys.{put_over}
 use Rattle.chunk_calls.specs.Told.{SetTells, GetTells}
 use Rattle.script_calls.specs.declared.calls.Call.{Call}
-use Rattle.script_calls.specs.declared.calls.Call.TheVariants.{Edit, Read, Commit, Ref, Prop}
+use Rattle.script_calls.specs.declared.calls.Call.TheVariants.{Edit, Read, Commit, Ref, Prop, Lease}
 use Rattle.script_calls.specs.declared.calls.EditCall.{EditCall}
 use Rattle.script_calls.specs.declared.calls.EditCall.TheVariants.{Set as Set_call, Fill, Put, KeySet}
 use Rattle.script_calls.specs.declared.calls.ReadCall.{ReadCall}
@@ -44,10 +54,15 @@ use Rattle.play_outcome.specs.declared.outcome.Shown.{Shown}
 use Rattle.play_outcome.specs.declared.outcome.End.{End}
 use Rattle.play_outcome.specs.declared.outcome.End.TheVariants as E
 use Rattle.play_outcome.specs.declared.outcome.Outcome.{Outcome}
-use Rattle.play_tasks.specs.Lines.{Deed, Goes, Sets, Reads, Puts, Gathers, Commits, deed, edit_deed, read_deed, edited, read_by, silent, still, key_set_deed, key_get_deed}
+use Rattle.play_tasks.specs.Lines.{Deed, Goes, Sets, Reads, Puts, Gathers, Leases, Commits, deed, edit_deed, read_deed, edited, read_by, silent, still, key_set_deed, key_get_deed}
 use Rattle.play_tasks.specs.Playing.{asked_by, policy_of}
 use Rattle.play_tasks.specs.Solving.{PlaysAll}
-use Rattle.play_tasks.specs.Telling.{TellsOfChunks, Refuses, WasTriedAt, EndsAt, WasNotOpened, WasOpened}
+use Rattle.play_tasks.specs.Bases.{MadeAlone}
+use Rattle.play_tasks.specs.Played.{IsGetOrRelease}
+use Rattle.play_tasks.specs.Telling.{TellsOfChunks, Refuses, RefusesLease, WasTriedAt, EndsAt, SessionTells}
+use Rattle.play_tasks.proofs.Early.{WasBegun-more}
+use Rattle.play_tasks.proofs.Going.{PlaysAll-append}
+use Rattle.play_tasks.proofs.Tried.{WasCarried-append}
 use Rattle.run_histories.specs.Told.{HasLost}
 use Rattle.play_course.specs.Refusing.{is_strange, strange_end}
 use Rattle.play_course.proofs.Reading.{edit-plain}
@@ -70,6 +85,7 @@ DeedIsPlain (Sets path index bytes) = Unit {0}
 DeedIsPlain (Reads path index show) = Unit {0}
 DeedIsPlain (Puts path from to numbers) = Unit {0}
 DeedIsPlain (Gathers path from to show) = Unit {0}
+DeedIsPlain (Leases show) = Unit {0}
 DeedIsPlain (Commits message) = Unit {0}
 
 key-set-plain : (bytes : List ℕ) (o : Option ZarrKey) (s : SessionState) → DeedIsPlain (key_set_deed bytes o s)
@@ -101,6 +117,7 @@ deed-plain line (Edit edit) s = edit-deed-plain edit s
 deed-plain line (Read look) s = read-deed-plain line look s
 deed-plain line (Commit message) s = tt
 deed-plain line (Ref call) s = λ why e. cc
+deed-plain line Lease s = tt
 deed-plain line (Prop name value) s = silent-plain (prop_added s name value) (prop-plain s name value)
 
 -- ---- logs
@@ -123,6 +140,72 @@ abbrev pub NeverHides : AnyIds → Task → ℕ → (start journal : List Event)
 NeverHides ids task client start journal =
     (lost : SessionState) (since : List Event) (key : Key) (bad : Bad) (l : HasLost ids task client start lost since journal) → ¬ WasHidden client (policy_of l.was_played.access) lost key bad since journal
 
+-- a log hid the node, whatever came behind
+hidden-append : (client : ℕ) (policy : Policy) (s : SessionState) (key : Key) (bad : Bad) (start journal more : List Event) → WasHidden client policy s key bad start journal → WasHidden client policy s key bad start (journal ++ more)
+hidden-append client policy s key bad start journal more w = record {
+  head = w.head;
+  version = w.version;
+  links = w.links;
+  later = w.later;
+  met = met-append client start journal more s w.head w.version w.links w.later w.met;
+  at = w.at;
+  before = w.before;
+  one = w.one;
+  last = w.last;
+  at_is = w.at_is;
+  node = w.node;
+  hides = w.hides;
+  key_is = w.key_is;
+  bad_is = w.bad_is;
+}
+
+module _ (ids : AnyIds) (task : Task) (client : ℕ) (start ended more : List Event) (good : Each IsGood ended more) (each : Each (λ before event. event.client ≡ client → IsGetOrRelease event.op) ended more) where
+  -- releases put no snapshot
+  alike-more : (s : SessionState) → HasPutAlike client s start ended → HasPutAlike client s start (ended ++ more)
+  alike-more s a =
+      let released : Each (PutsAlike client s) ended more =
+      Each-weaker (λ before event. event.client ≡ client → IsGetOrRelease event.op) (PutsAlike client s) (λ before event alone mine id bytes why put. absurd (subst IsGetOrRelease put (alone mine))) ended more each in
+      record {
+        more = a.more ++ more;
+        is = ap (λ (h : List Event). h ++ more) a.is ∙ append_assoc start a.more more;
+        each = Each-append (PutsAlike client s) start a.more more a.each (subst (λ (h : List Event). Each (PutsAlike client s) h more) a.is released);
+      }
+
+  lost-more : (lost : SessionState) (since : List Event) → HasLost ids task client start lost since ended → HasLost ids task client start lost since (ended ++ more)
+  lost-more lost since l =
+      let p = l.was_played in
+      record {
+        session = l.session;
+        was_played = record {
+          access = p.access;
+          head_is = p.head_is;
+          opened = p.opened;
+          begun = WasBegun-more client (asked_by p.access ids) p.opened start ended more p.begun;
+          early = p.early;
+          read = IsOpened-append p.opened ended more good p.read;
+          played = p.played;
+          left = p.left;
+          body = p.body;
+          shown = p.shown;
+          plays = PlaysAll-append client p.played p.opened start p.shown l.session ended more good p.plays;
+        };
+        count = l.count;
+        at_last = l.at_last;
+        carried = WasCarried-append client (policy_of p.access) l.count l.session l.at_last start ended more l.carried;
+        was_lost = l.was_lost;
+        alike = alike-more lost l.alike;
+      }
+
+  hides-before : NeverHides ids task client start (ended ++ more) → NeverHides ids task client start ended
+  unfolding lost-more
+  hides-before never lost since key bad l hidden = never lost since key bad (lost-more lost since l) (hidden-append client (policy_of l.was_played.access) lost key bad since ended more hidden)
+
+-- so it was before the releases
+pub earlier-hides : (ids : AnyIds) (task : Task) (client : ℕ) (start ended journal : List Event) → IsGoodJournal journal → MadeAlone IsGetOrRelease client ended journal → NeverHides ids task client start journal → NeverHides ids task client start ended
+earlier-hides ids task client start ended journal good made never =
+    let behind = (Each-back IsGood [] ended made.more (subst IsGoodJournal made.is good)).1 in
+    hides-before ids task client start ended made.more behind made.each (subst (NeverHides ids task client start) made.is never)
+
 same-why : (end : End) (line other : ℕ) (why own : Refusal) → end ≡ E.Refused line why → end ≡ E.Refused other own → own ≡ why
 same-why end line other why own e f = let both = sym e ∙ f in cc
 
@@ -142,16 +225,34 @@ module _ (ids : AnyIds) (task : Task) (client : ℕ) (start journal : List Event
     | inr w ↦ let k = w.unread.key_is in absurd cc
   ]
 
-  not-refused : (d : Deed) (s : SessionState) (why : Refusal) → SaysHidden why → DeedIsPlain d → Refuses client d s start why journal → ⊥
-  not-refused (Goes r) s why h p t = not-strange why h (p why t.0)
-  not-refused (Sets path index bytes) s why h p t =
+  -- no lease is refused so
+  lease-unhidden : (s : SessionState) (why : Refusal) → SaysHidden why → lease_of s ≡ Err why → ⊥
+  lease-unhidden s why h = by_parts (witness_of s.origin) (drawn12 s.ids)
+    where
+      by_parts : (w : Option Witness) (o : Option Id12) → lease_with w o s.base ≡ Err why → ⊥
+      by_parts None o e = not-strange why h (refused_as why R.Unnamed refl e)
+      by_parts (Some w) None e = not-strange why h (refused_as why R.IdsSpent refl e)
+      by_parts (Some w) (Some id) e = absurd cc
+
+  leased-unhidden : (id base : Id12) (w : Witness) (since : List Event) (placed : Option Id12) (why : Refusal) → SaysHidden why → LeaseTells client id base w since (record { placed = placed; result = Err why }) journal → ⊥
+  leased-unhidden id base w since None why h t = subst (λ (x : Refusal). UnplacedTells client id base since (Err x) journal) h.is t
+  leased-unhidden id base w since (Some own) why h t = subst (λ (x : Refusal). PlacedTells client id base w since (Err x) journal) h.is t.1
+
+  lease-refused : (show : Id12 → Shown) (s : SessionState) (last : List Shown) (why : Refusal) → SaysHidden why → RefusesLease client show s start last why journal → ⊥
+  lease-refused show s last why h (inl t) = lease-unhidden s why h t.0
+  lease-refused show s last why h (inr t) = leased-unhidden t.id s.base t.witness (start ++ t.since) t.placed why h t.tells
+
+  not-refused : (d : Deed) (s : SessionState) (last : List Shown) (why : Refusal) → SaysHidden why → DeedIsPlain d → Refuses client d s start last why journal → ⊥
+  not-refused (Goes r) s last why h p t = not-strange why h (p why t.0)
+  not-refused (Sets path index bytes) s last why h p t =
       let f = (subst (λ (w : Refusal). SetTells client s path index bytes start (Err w) journal) h.is t).0 in
       let both = ap (is_strange false) f.2 ∙ edit-plain f.0 in
       absurd cc
-  not-refused (Reads path index show) s why h p t = (subst (λ (w : Refusal). GetTells client s path index start (Err w) journal) h.is t).0.unfit
-  not-refused (Puts path from to numbers) s why h p t = subst TellsOfChunks h.is t.1
-  not-refused (Gathers path from to show) s why h p t = subst TellsOfChunks h.is t.1
-  not-refused (Commits message) s why h p t = absurd t
+  not-refused (Reads path index show) s last why h p t = (subst (λ (w : Refusal). GetTells client s path index start (Err w) journal) h.is t).0.unfit
+  not-refused (Puts path from to numbers) s last why h p t = subst TellsOfChunks h.is t.1
+  not-refused (Gathers path from to show) s last why h p t = subst TellsOfChunks h.is t.1
+  not-refused (Leases show) s last why h p t = lease-refused show s last why h t.0
+  not-refused (Commits message) s last why h p t = absurd t
 
   not-committed : (s : SessionState) (message : List ℕ) (why : Refusal) → SaysHidden why → CommitTells client s message start (Err why) journal → ⊥
   not-committed s message why h t = let w = (subst (λ (x : Refusal). CommitTells client s message start (Err x) journal) h.is t).0 in let k = w.key_is in absurd cc
@@ -173,12 +274,12 @@ module _ (ids : AnyIds) (task : Task) (client : ℕ) (start journal : List Event
     abbrev says : (other : ℕ) (own : Refusal) → outcome.end ≡ E.Refused other own → SaysHidden own
     says other own e = let same = same-why outcome.end line other why own end e in record { at = h.at; node = h.node; is = same ∙ h.is }
 
-    never-told : WasNotOpened ids access task client start outcome journal ⊎ WasOpened ids access task client start outcome journal → ⊥
+    never-told : SessionTells ids access task client start outcome journal → ⊥
     never-told (inl t) = not-opened t.why (says task.line t.why t.end_is) t.tells
     never-told (inr t) = by_left t.left refl t.ends
       where
         -- a commit that was tried
-        tried : (l : Line) (s : SessionState) → PlaysAll client t.played t.opened start outcome.shown s journal → WasTriedAt client access l s start outcome.end journal → ⊥
+        tried : (l : Line) (s : SessionState) → PlaysAll client t.played t.opened start t.shown s journal → WasTriedAt client access l s start t.last outcome.end journal → ⊥
         tried l s plays w = elim w.ends [
           | inl c ↦ let both = sym end ∙ c.end_is in absurd cc
           | inr (inl c) ↦ let both = sym end ∙ c.end_is in absurd cc
@@ -191,7 +292,7 @@ module _ (ids : AnyIds) (task : Task) (client : ℕ) (start journal : List Event
                   never n.lost (start ++ n.since) (Txn own.at) (Unlisted own.node)
                   (record {
                     session = s;
-                    was_played = record { access = access; head_is = head_is; opened = t.opened; begun = t.begun; early = t.early; read = t.read; played = t.played; left = t.left; body = t.body; shown = outcome.shown; plays = plays };
+                    was_played = record { access = access; head_is = head_is; opened = t.opened; begun = t.begun; early = t.early; read = t.read; played = t.played; left = t.left; body = t.body; shown = t.shown; plays = plays };
                     count = w.count;
                     at_last = w.at_last;
                     carried = w.carried;
@@ -203,10 +304,10 @@ module _ (ids : AnyIds) (task : Task) (client : ℕ) (start journal : List Event
           ]
         ]
 
-        by_left : (left : List Line) → t.left ≡ left → EndsAt client access left t.session start outcome.end journal → ⊥
+        by_left : (left : List Line) → t.left ≡ left → EndsAt client access left t.session start t.last outcome.end journal → ⊥
         by_left [] e w = let both = sym end ∙ w.0 in absurd cc
         by_left (l ∷ ls) e w = elim w [
-          | inl r ↦ not-refused (deed l.number l.call t.session) t.session r.why (says l.number r.why r.end_is) (deed-plain l.number l.call t.session) r.refuses
+          | inl r ↦ not-refused (deed l.number l.call t.session) t.session t.last r.why (says l.number r.why r.end_is) (deed-plain l.number l.call t.session) r.refuses
           | inr a ↦ elim a [
             | inl r ↦ not-strange R.NoMemory (says l.number R.NoMemory r.end_is) refl
             | inr r ↦ tried l t.session t.plays r
@@ -214,7 +315,7 @@ module _ (ids : AnyIds) (task : Task) (client : ℕ) (start journal : List Event
         ]
 
   -- so no refusal of it is strange
-  pub told-plain : (collects : Bool) (outcome : Outcome) → WasNotOpened ids access task client start outcome journal ⊎ WasOpened ids access task client start outcome journal → EndsFine collects outcome.end → strange_end collects outcome.end ≡ false
+  pub told-plain : (collects : Bool) (outcome : Outcome) → SessionTells ids access task client start outcome journal → EndsFine collects outcome.end → strange_end collects outcome.end ≡ false
   told-plain collects outcome t fine = by_end outcome.end refl fine
     where
       by_end : (end : End) → outcome.end ≡ end → EndsFine collects end → strange_end collects end ≡ false

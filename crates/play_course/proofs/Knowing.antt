@@ -24,7 +24,7 @@ use Rattle.run_histories.specs.Runs.{AllTrees, AllCaused}
 use Rattle.run_histories.proofs.Sources.{object-spent}
 use Rattle.run_histories.proofs.Drawing.{are-among, object-draws}
 use Rattle.play_course.specs.Refusing.{is_strange}
-use Rattle.play_course.proofs.Tidy.{Client, Draws, AreIts, IsTidy, IsAny, AllStand, Puts, any-of, along, spared-snapshot, spared-log, spared-manifest, spared-chunk, free-others, free-apart}
+use Rattle.play_course.proofs.Tidy.{Client, Draws, AreIts, IsTidy, IsAny, AllStand, Puts, any-of, along, spared-snapshot, spared-log, spared-manifest, spared-chunk, spared-lease, free-others, free-apart}
 use Rattle.play_course.proofs.Meeting.{Watch}
 
 -- ---- the journal
@@ -54,6 +54,7 @@ pub record IsFreeId (journal : List Event) (id : Id12) : Type 0 where
   pub log : found journal (Txn id) ≡ None
   pub manifest : found journal (Manifest id) ≡ None
   pub chunk : found journal (Chunk id) ≡ None
+  pub lease : found journal (Lease id) ≡ None
 
 -- ---- the events of others, and the client's own
 -- an event of others than this client: it puts nothing under the client's ids, and nodes stay new to this source
@@ -101,6 +102,7 @@ module _ (client : Client) where
     log = free-others Who (Txn id) old more (spared-log id Who (not-who id d)) others f.log;
     manifest = free-others Who (Manifest id) old more (spared-manifest id Who (not-who id d)) others f.manifest;
     chunk = free-others Who (Chunk id) old more (spared-chunk id Who (not-who id d)) others f.chunk;
+    lease = free-others Who (Lease id) old more (spared-lease id Who (not-who id d)) others f.lease;
   }
 
   -- any event goes on so
@@ -162,6 +164,7 @@ free-beside journal event key bytes why id other is under differs f =
       log = free-apart (Txn other) journal event (off (Txn other) refl) f.log;
       manifest = free-apart (Manifest other) journal event (off (Manifest other) refl) f.manifest;
       chunk = free-apart (Chunk other) journal event (off (Chunk other) refl) f.chunk;
+      lease = free-apart (Lease other) journal event (off (Lease other) refl) f.lease;
     }
 
 -- through an own event that puts nothing under what the source may draw
@@ -196,6 +199,7 @@ before-over client ids source journal event branch bytes old why own is b =
       log = free-apart (Txn id) journal event (ap (is_on (Txn id)) is) f.log;
       manifest = free-apart (Manifest id) journal event (ap (is_on (Manifest id)) is) f.manifest;
       chunk = free-apart (Chunk id) journal event (ap (is_on (Chunk id)) is) f.chunk;
+      lease = free-apart (Lease id) journal event (ap (is_on (Lease id)) is) f.lease;
     }) b
 
 pub drawn-now : (source : AnyIds) (id : Id12) → drawn12 source ≡ Some id → MayDrawObject source id

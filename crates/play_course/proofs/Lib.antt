@@ -14,6 +14,8 @@ mod Naming
 mod Opening
 mod Settling
 mod Calling
+pub mod Released
+mod Leasing
 mod Tasks
 mod Edges
 mod Marking

@@ -21,6 +21,7 @@ use Rattle.store_api.specs.Program.{Prog, Done, Ask, bind, Path, moves_branch, e
 use Rattle.store_api.specs.Plays.{Play, Ended, Ask as Ask_play, Or, call, behind, Comes, ended_as}
 use Rattle.object_store.proofs.Journals.{Each-append, Each-none}
 use Rattle.store_api.specs.Running.{Program, ◌>>=◌, on_answer}
+use Rattle.leases.specs.Following.{followed}
 use Rattle.play_tasks.specs.Played.{StartsWith, PlaysTo}
 use Rattle.play_course.specs.Refusing.{strange_answer}
 use Rattle.play_course.proofs.Tidy.{IsTidy, IsAny}
@@ -99,6 +100,16 @@ unfolding PlayMeets
 play-weaker Q R f watch (Ended a) journal m = f a m
 play-weaker Q R f watch (Ask_play op starved next) journal m = (play-weaker Q R f watch starved journal m.0, λ more event others own is. play-weaker Q R f watch (next event.reply) ((journal ++ more) ++ event ∷ []) (m.1 more event others own is))
 play-weaker Q R f watch (Or p q) journal m = (play-weaker Q R f watch p journal m.0, play-weaker Q R f watch q journal m.1)
+
+-- a play, and what follows its outcome
+pub followed-meets : {A B : Type 0} (Q : A → Type 0) (R : B → Type 0) (watch : Watch) (p : Play A) (f : A → Play B) (journal : List Event) → PlayMeets Q watch p journal → ((a : A) (h : List Event) → Q a → PlayMeets R watch (f a) h) → PlayMeets R watch (followed p f) journal
+unfolding PlayMeets
+followed-meets Q R watch (Ended a) f journal m g = g a journal m
+followed-meets Q R watch (Ask_play op starved next) f journal m g = (
+  followed-meets Q R watch starved f journal m.0 g,
+  λ more event others own is. followed-meets Q R watch (next event.reply) f ((journal ++ more) ++ event ∷ []) (m.1 more event others own is) g,
+)
+followed-meets Q R watch (Or p q) f journal m g = (followed-meets Q R watch p f journal m.0 g, followed-meets Q R watch q f journal m.1 g)
 
 -- a play whose end is told as another one
 pub ended-as_meets : {A B : Type 0} (f : A → B) (Q : B → Type 0) (watch : Watch) (p : Play A) (journal : List Event) → PlayMeets (λ a. Q (f a)) watch p journal → PlayMeets Q watch (ended_as f p) journal
@@ -254,6 +265,13 @@ replied journal event op good is =
     unless-failed (IsHonest (found journal) (length journal) event.time op) event.reply
     (subst (λ (o : Op). UnlessFailed (IsHonest (found journal) (length journal) event.time o) event.reply) is good.legal.answered)
 
+-- to a put where nothing stands: it was done, or failed
+pub put-replied : (journal : List Event) (event : Event) (key : Key) (bytes : List ℕ) (why : Why) → IsGood journal event → event.op ≡ PutNew key bytes why → found journal key ≡ None → (event.reply ≡ Is_new (New_done (version_at (length journal)) event.time)) ⊎ IsFailed event.reply
+put-replied journal event key bytes why good is free = elim (replied journal event (PutNew key bytes why) good is) [
+  | inl h ↦ inl (h ∙ ap (λ (o : Option Stored). Is_new (new_of (length journal) event.time o)) free)
+  | inr f ↦ inr f
+]
+
 module _ {A : Type 0} (Q : A → List Event → Type 0) (watch : Watch) (next : Reply → Prog A) (journal : List Event) (event : Event) (good : IsGood journal event) (after : List Event) where
   -- to a get: what stands at the key, or nothing
   pub got-meets : (key : Key) → event.op ≡ Get key
@@ -275,8 +293,8 @@ module _ {A : Type 0} (Q : A → List Event → Type 0) (watch : Watch) (next : 
       → (event.reply ≡ Is_new (New_done (version_at (length journal)) event.time) → Meets Q watch (next (Is_new (New_done (version_at (length journal)) event.time))) after)
       → ((done : Bool) → Meets Q watch (next (Failed done)) after)
       → Meets Q watch (next event.reply) after
-  put-meets key bytes why is free put failed = elim (replied journal event (PutNew key bytes why) good is) [
-    | inl h ↦ let told = h ∙ ap (λ (o : Option Stored). Is_new (new_of (length journal) event.time o)) free in subst (λ (r : Reply). Meets Q watch (next r) after) (sym told) (put told)
+  put-meets key bytes why is free put failed = elim (put-replied journal event key bytes why good is free) [
+    | inl told ↦ subst (λ (r : Reply). Meets Q watch (next r) after) (sym told) (put told)
     | inr f ↦ subst (λ (r : Reply). Meets Q watch (next r) after) (sym f.is) (failed f.done)
   ]
 

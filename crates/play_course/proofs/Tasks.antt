@@ -5,7 +5,7 @@ use Rattle.std.specs.FinMap.{get}
 use Rattle.ice_ids.specs.declared.Id8.{Id8}
 use Rattle.ice_ids.specs.declared.Id12.{Id12}
 use Rattle.ice_ids.specs.declared.drawing.AnyIds.{AnyIds}
-use Rattle.ice_ids.specs.Drawing.{drawn8}
+use Rattle.ice_ids.specs.Drawing.{drawn8, drawn12}
 use Rattle.zarr_path.specs.declared.keys.ZarrKey.{ZarrKey}
 use Rattle.zarr_path.specs.declared.keys.ZarrKey.TheVariants as zarr
 use Rattle.zarr_path.specs.Keys.{key_of}
@@ -15,6 +15,11 @@ use Rattle.zarr_meta.specs.Meta.{meta_of}
 use Rattle.zarr_tree.specs.Nodes.{Node}
 use Rattle.zarr_tree.specs.declared.edit.EditFault.{EditFault}
 use Rattle.repo_objects.specs.Laws.{SnapshotLaw}
+use Rattle.ref_file.specs.Refs.{ref_bytes}
+use Rattle.object_store.specs.declared.keys.Key.TheVariants.{Lease as Lease_key}
+use Rattle.object_store.specs.declared.keys.Why.TheVariants.{Lease as For_lease}
+use Rattle.object_store.specs.declared.events.Op.TheVariants.{Get, PutNew}
+use Rattle.object_store.specs.declared.events.Reply.{Reply}
 use Rattle.object_store.specs.declared.events.Event.{Event}
 use Rattle.object_store.specs.declared.events.Version.{Version}
 use Rattle.store_api.specs.declared.machines.Refusal.{Refusal}
@@ -28,7 +33,7 @@ use Rattle.session.specs.Sessions.{SessionState, branch_of, nodes_seen, writes}
 use Rattle.session.specs.Opening.{open_program}
 use Rattle.session.specs.Editing as session
 use Rattle.script_calls.specs.declared.calls.Call.{Call}
-use Rattle.script_calls.specs.declared.calls.Call.TheVariants.{Edit, Read, Commit, Ref, Prop}
+use Rattle.script_calls.specs.declared.calls.Call.TheVariants.{Edit, Read, Commit, Ref, Prop, Lease}
 use Rattle.script_calls.specs.declared.calls.EditCall.{EditCall}
 use Rattle.script_calls.specs.declared.calls.ReadCall.{ReadCall}
 use Rattle.script_calls.specs.declared.calls.Access.{Access}
@@ -43,7 +48,12 @@ use Rattle.std.proofs.lemmas.List.Elements.{All-head, All-tail}
 use Rattle.zarr_changes.specs.Sets.{add_refusal, text_refusal, drop_refusal, unset_refusal}
 use Rattle.session.specs.declared.chunks.Value.{Value}
 use Rattle.session.specs.Editing.{node_fault, added, entered, meta_set, node_dropped, if_writes, unless_bad, unless_refused, unless_unfit, refusal_of_edit, drawn_node, with_prop, prop_added, if_there, listed}
-use Rattle.session.specs.Chunks.{set_program, get_program, chunk_unset, without_chunk}
+use Rattle.session.specs.Chunks.{after_draw, set_program, get_program, chunk_unset, without_chunk}
+use Rattle.leases.specs.declared.lease.Leased.{Leased}
+use Rattle.leases.specs.declared.witness.Witness.{Witness}
+use Rattle.leases.specs.Plays.{witness_of, witness_key, confirmed, after_put, confirm_play, lease_play, lease_with}
+use Rattle.leases.specs.Starting.{lease_of}
+use Rattle.leases.specs.Following.{followed}
 use Rattle.array_region.specs.Reading.{region_program}
 use Rattle.array_region.specs.Writing.{region_set_program}
 use Rattle.commit_path.specs.Laws.{TellsFaults}
@@ -61,8 +71,8 @@ use Rattle.script_calls.specs.declared.calls.EditCall.TheVariants.{Set as Set_ca
 use Rattle.script_calls.specs.declared.calls.ReadCall.TheVariants.{List as List_call, Get as Get_call, Chunk as Chunk_call, Cells, KeyGet}
 use Rattle.play_script.specs.Well.{IsWellPath, IsWellEdit, IsWellLine}
 use Rattle.zarr_keys.specs.Keys.{session_of, meta_value, put_over}
-use Rattle.play_tasks.specs.Lines.{deed, edit_deed, read_deed, edited, read_by, silent, still, nodes_shown, meta_shown, value_shown, cells_shown, key_shown, chunk_key_shown, key_set_deed, key_get_deed, filled, Goes}
-use Rattle.play_tasks.specs.Playing.{Rest, after_line, how_of, after_settling, doubt_of, doubt_play, after_commit, after_rebase, after_open, shown_by, commit_play, tries_of, policy_of, play_deed, play_lines, asked_by, session_play}
+use Rattle.play_tasks.specs.Lines.{deed, edit_deed, read_deed, edited, read_by, silent, still, nodes_shown, meta_shown, value_shown, cells_shown, key_shown, chunk_key_shown, key_set_deed, key_get_deed, filled, lease_shown, Goes}
+use Rattle.play_tasks.specs.Playing.{Rest, after_confirm, after_lease, lease_by, after_line, how_of, after_settling, doubt_of, doubt_play, after_commit, after_rebase, after_open, shown_by, commit_play, tries_of, policy_of, play_deed, play_lines, asked_by, session_play}
 use Rattle.play_tasks.proofs.Ways.{Way, adds, texts, drops, unsets, no_key, stays, put-way, edited-way}
 use Rattle.run_histories.specs.Sources.{NodesAreNew}
 use Rattle.commit_path.proofs.Adding.{prop-added, prop-opened}
@@ -71,12 +81,13 @@ use Rattle.run_histories.proofs.Edits.{Edits, edit-later, edit-goes, edit-base, 
 use Rattle.run_histories.proofs.Editing.{Leads, call-leads}
 use Rattle.play_course.specs.Refusing.{is_strange, strange_end}
 use Rattle.play_course.proofs.Tidy.{Client, AreIts}
-use Rattle.play_course.proofs.Meeting.{PlayMeets, ended-meets, or-meets, call-meets}
+use Rattle.play_course.proofs.Meeting.{PlayMeets, ended-meets, or-meets, play-asks, call-meets, put-replied}
 use Rattle.settle.specs.Settling.{settle_program}
 use Rattle.play_course.proofs.Settling.{SettlesWell, kept-meets, settle-meets, how-plain}
-use Rattle.play_course.proofs.Knowing.{IsKept, Before, beside, before-later, plain-beside}
-use Rattle.play_course.proofs.Holding.{Held, MayCommit, held-may}
-use Rattle.play_course.proofs.Reading.{edit-plain, ReadWell, get-meets}
+use Rattle.play_course.proofs.Knowing.{IsKept, Before, beside, before-later, drawn-now, plain-beside}
+use Rattle.play_course.proofs.Holding.{Held, MayCommit, held-may, held-others}
+use Rattle.play_course.proofs.Reading.{edit-plain, ReadWell, get-meets, held-got}
+use Rattle.play_course.proofs.Leasing.{Plain, confirmed-plain, held-leased}
 use Rattle.play_course.proofs.Opening.{Opens, open-meets}
 use Rattle.play_course.proofs.Placing.{SetWell, set-meets}
 use Rattle.play_course.proofs.Boxing.{NumbersWell, WriteWell, gather-meets, put-box-meets}
@@ -280,6 +291,42 @@ module _ (client : Client) (ids : AnyIds) where
   gather-goes line shown s show rest go (Ok numbers) journal h = go s _ journal h
   gather-goes line shown s show rest go (Err why) journal p = refused-meets line shown why journal p
 
+  -- ---- leases
+  confirm-goes : (line : ℕ) (shown : List Shown) (t : SessionState) (rest : Rest) → GoesOn rest → (r : Result (Unit {0}) Refusal) → Plain r → (journal : List Event) → Held client ids t journal → PlayMeets Ends (beside client ids) (after_confirm line shown t rest r) journal
+  confirm-goes line shown t rest go (Ok done) p journal h = go t shown journal h
+  confirm-goes line shown t rest go (Err why) p journal h = refused-plain line shown why journal p
+
+  -- a lease that was put is to be confirmed
+  confirm-meets : (line : ℕ) (shown : List Shown) (t : SessionState) (rest : Rest) → GoesOn rest → (id : Id12) (w : Witness) (journal : List Event) → Held client ids t journal → PlayMeets Ends (beside client ids) (followed (confirm_play id w) (after_lease (lease_shown line) line shown t rest)) journal
+  confirm-meets line shown t rest go id w journal h =
+      let all : List Shown = shown ++ lease_shown line id ∷ [] in
+      play-asks Ends (beside client ids) (Get (witness_key w)) (refused line all R.NoMemory) (λ reply. after_confirm line all t rest (confirmed w reply)) journal (refused-meets line all R.NoMemory journal refl)
+      (λ more event others own is.
+      confirm-goes line all t rest go (confirmed w event.reply) (confirmed-plain w event.reply) ((journal ++ more) ++ event ∷ []) (held-got client ids t (journal ++ more) event (witness_key w) own is (held-others client ids t journal more others h)))
+
+  leasing-meets : (line : ℕ) (shown : List Shown) (s : SessionState) (rest : Rest) (journal : List Event) → Held client ids s journal → GoesOn rest → (w : Witness) (id : Id12) → drawn12 s.ids ≡ Some id
+      → PlayMeets Ends (beside client ids) (followed (lease_play id s.base w) (after_lease (lease_shown line) line shown (after_draw s) rest)) journal
+  leasing-meets line shown s rest journal h go w id drawn =
+      let f : Leased → Play Outcome = after_lease (lease_shown line) line shown (after_draw s) rest in
+      play-asks Ends (beside client ids) (PutNew (Lease_key id) (ref_bytes s.base) For_lease) (refused line (shown ++ []) R.NoMemory) (λ reply. followed (after_put id w reply) f) journal (refused-meets line (shown ++ []) R.NoMemory journal refl)
+      (λ more event others own is.
+      let mid = held-others client ids s journal more others h in
+      let free = (mid.before.free id (drawn-now s.ids id drawn)).lease in
+      let after : List Event = (journal ++ more) ++ event ∷ [] in
+      let P : Reply → Type 0 = λ reply. PlayMeets Ends (beside client ids) (followed (after_put id w reply) f) after in
+      elim (put-replied (journal ++ more) event (Lease_key id) (ref_bytes s.base) For_lease own.tidy.good is free) [
+        | inl told ↦ subst P (sym told) (confirm-meets line shown (after_draw s) rest go id w after (held-leased client ids s (journal ++ more) event id (ref_bytes s.base) own is drawn mid))
+        | inr failed ↦ subst P (sym failed.is) (refused-meets line (shown ++ lease_shown line id ∷ []) R.StoreFault after refl)
+      ])
+
+  lease-meets : (line : ℕ) (shown : List Shown) (s : SessionState) (rest : Rest) (journal : List Event) → Held client ids s journal → GoesOn rest → PlayMeets Ends (beside client ids) (lease_by (lease_shown line) line shown s rest (lease_of s)) journal
+  lease-meets line shown s rest journal h go = by_parts (witness_of s.origin) (drawn12 s.ids) refl
+    where
+      by_parts : (w : Option Witness) (o : Option Id12) → drawn12 s.ids ≡ o → PlayMeets Ends (beside client ids) (lease_by (lease_shown line) line shown s rest (lease_with w o s.base)) journal
+      by_parts None o drawn = refused-meets line shown R.Unnamed journal refl
+      by_parts (Some w) None drawn = refused-meets line shown R.IdsSpent journal refl
+      by_parts (Some w) (Some id) drawn = leasing-meets line shown s rest journal h go w id drawn
+
   -- ---- commits
   -- a commit in doubt
   doubt-meets : (shown : List Shown) (s : SessionState) (id : Id12) (h : List Event) → IsKept client h → PlayMeets Ends (beside client ids) (doubt_play shown s id) h
@@ -372,6 +419,7 @@ module _ (client : Client) (ids : AnyIds) where
   deed-meets law access line (Read look) shown s rest journal h go leads = read-deed-meets access line look shown s rest journal h go
   deed-meets law access line (Ref call) shown s rest journal h go leads = go s (shown ++ []) journal h
   deed-meets law access line (Prop name value) shown s rest journal h go leads = prop-meets line shown name value s rest journal h go leads (prop_added s name value) refl
+  deed-meets law access line Lease shown s rest journal h go leads = lease-meets line shown s rest journal h go
   deed-meets law access line (Commit message) shown s rest journal h go leads = tries-meet law (tries_of access) (policy_of access) line shown message s journal (held-may client ids s journal h)
 
   lines-meets : (law : SnapshotLaw) (access : Access) (lines : List Line) → All IsWellLine lines → (s : SessionState) (shown : List Shown) (journal : List Event) → Held client ids s journal → PlayMeets Ends (beside client ids) (play_lines access lines s shown) journal

@@ -164,13 +164,13 @@ no-object (Tag name) o b = o
 no-object (Tombstone name) o b = o
 no-object (Lease id) o b = o
 
--- no key is removed but a branch
+-- no object is removed
 abbrev pub Keeps : Op → Type 0
 Keeps (Get key) = Unit {0}
 Keeps (ListPart part) = Unit {0}
 Keeps (PutNew key bytes why) = Unit {0}
 Keeps (PutOver key bytes old why) = Unit {0}
-Keeps (Remove key why) = ⊥
+Keeps (Remove key why) = ¬ IsObject key
 Keeps (RemoveAt key old why) = IsBranch key
 
 abbrev Unused : Slot → Type 0
@@ -181,7 +181,7 @@ leaves-unused key object n time (Get k) slot keeps on u = u
 leaves-unused key object n time (ListPart part) slot keeps on u = u
 leaves-unused key object n time (PutNew k bytes why) slot keeps on u = free-cases Unused slot.stands (put_at n time bytes slot) slot u (λ free none. absurd cc)
 leaves-unused key object n time (PutOver k bytes old why) slot keeps on u = old-cases Unused old.0 slot.stands (put_at n time bytes slot) slot u (λ s e v none. absurd cc)
-leaves-unused key object n time (Remove k why) slot keeps on u = absurd keeps
+leaves-unused key object n time (Remove k why) slot keeps on u = absurd (keeps (subst IsObject (sym (same_key-true k key on)) object))
 leaves-unused key object n time (RemoveAt k old why) slot keeps on u = absurd (no-object key object (subst IsBranch (same_key-true k key on) keeps))
 
 -- what was put of objects stands
@@ -224,6 +224,9 @@ spared-manifest id who other bytes p = other p
 
 pub spared-chunk : (id : Id12) (who : Id12 → Type 0) → ¬ who id → IsSpared who (Chunk id)
 spared-chunk id who other bytes p = other p
+
+pub spared-lease : (id : Id12) (who : Id12 → Type 0) → ¬ who id → IsSpared who (Lease id)
+spared-lease id who other bytes p = other p
 
 abbrev Free : Slot → Type 0
 Free slot = slot.stands ≡ None

@@ -16,7 +16,7 @@ use Rattle.object_store.specs.declared.events.Op.TheVariants.{Get, PutNew, PutOv
 use Rattle.object_store.specs.declared.events.Event.{Event}
 use Rattle.store_api.specs.declared.machines.Refusal.{Refusal}
 use Rattle.store_api.specs.declared.machines.Refusal.TheVariants as R
-use Rattle.store_api.specs.Journal.{Each, IsGood}
+use Rattle.store_api.specs.Journal.{Each, IsGood, IsGoodJournal}
 use Rattle.store_api.specs.Callers.{Caller, View, HasAll, as_client}
 use Rattle.store_api.specs.Program.{Done, Path, events_of}
 use Rattle.store_api.proofs.Programs.{Path-none}
@@ -43,7 +43,7 @@ use Rattle.play_outcome.specs.declared.outcome.Outcome.{Outcome}
 use Rattle.play_outcome.specs.declared.outcome.RefLine.{RefLine}
 use Rattle.play_expire.specs.Playing.{terms_of}
 use Rattle.play_tasks.specs.Owing.{OwesBy}
-use Rattle.play_tasks.specs.Playing.{headed_play, task_play}
+use Rattle.play_tasks.specs.Playing.{headed_play, release_all, session_play, task_play}
 use Rattle.play_tasks.specs.Telling.{TellsBy}
 use Rattle.play_tasks.specs.Solving.{IsOfTask}
 use Rattle.play_tasks.specs.Tasks.{ids_at, IsOfClient}
@@ -53,7 +53,7 @@ use Rattle.run_histories.specs.Runs.{IsBy, IsRun, IsSound, RanAlone}
 use Rattle.run_histories.specs.Told.{NoneHidden, RunLaw}
 use Rattle.run_histories.proofs.Expiring.{expiry-keeps, expiry-plain}
 use Rattle.run_histories.proofs.Checking.{read-plain}
-use Rattle.run_histories.proofs.Removals.{IsRemoval}
+use Rattle.run_histories.proofs.Removals.{IsRemoval, gone-keeps}
 use Rattle.run_histories.proofs.Programs.{IsCleanup, IsPlain, IsPlainOrCleanup, AllPlain, path-plain, begin-plain, refs-plain}
 use Rattle.run_histories.proofs.Drawing.{IsDrawnBy, object-draws, drawn-apart, ids_at-of}
 use Rattle.run_histories.proofs.Carrying.{task-draws}
@@ -64,14 +64,16 @@ use Rattle.run_histories.proofs.Joined.{nothing-law}
 use Rattle.play_course.specs.declared.course.Played.{Played}
 use Rattle.play_course.specs.Course.{Course, Plays}
 use Rattle.play_course.specs.Refusing.{strange_answer, strange_end, NothingStrange}
-use Rattle.play_course.proofs.Tidy.{Client, Draws, IsTidy, IsAny, IsOthers, AllStand, Keeps, Puts, PutsNew, along, any-of, free-others, nothing-stands, puts-weaker, spared-chunk, spared-log, spared-manifest, spared-snapshot, stand-none, stand-one}
-use Rattle.play_course.proofs.Meeting.{Watch, drawing, Meets, PlayMeets, IsWatched, plays-meets, meets-path}
+use Rattle.play_course.proofs.Tidy.{Client, Draws, IsTidy, IsAny, IsOthers, AllStand, Keeps, Puts, PutsNew, along, any-of, free-others, nothing-stands, puts-weaker, spared-chunk, spared-lease, spared-log, spared-manifest, spared-snapshot, stand-none, stand-one}
+use Rattle.play_course.proofs.Meeting.{Watch, drawing, Meets, PlayMeets, IsWatched, followed-meets, plays-meets, meets-path}
 use Rattle.play_course.proofs.Calling.{calls-meet}
 use Rattle.play_course.proofs.Collecting.{collection-meets}
 use Rattle.play_course.proofs.Expiring.{expiry-meets}
 use Rattle.play_course.proofs.Checking.{check-plain, meets-any}
 use Rattle.play_course.proofs.Tasks.{EndsFine, session-meets}
-use Rattle.play_course.proofs.Hiding.{NeverHides, told-plain}
+use Rattle.play_course.proofs.Leasing.{releases-meet}
+use Rattle.play_course.proofs.Released.{released-made}
+use Rattle.play_course.proofs.Hiding.{NeverHides, earlier-hides, told-plain}
 use Rattle.play_course.proofs.Knowing.{IsSoFar, IsFreeId, OfOthers, OfOwn, Before, beside}
 use Rattle.play_course.proofs.Playing.{at-once, tells-on}
 use Rattle.play_course.proofs.Leaving.{ran-alone, course-run}
@@ -88,12 +90,15 @@ EndsBy collects (Expire cutoff drop_branches drop_tags) end = strange_end collec
 EndsBy collects Check end = Unit {0}
 
 -- what is told of a task says that it isn't by that either
-told-by_head : (collects : Bool) (ids : AnyIds) (task : Task) (client : ℕ) (start journal : List Event) → NeverHides ids task client start journal → (outcome : Outcome) → (head : Head) → task.head ≡ head → TellsBy head ids task client start outcome journal → EndsBy collects head outcome.end → strange_end collects outcome.end ≡ false
-told-by_head collects ids task client start journal never outcome (Session access) is told ends = told-plain ids task client start journal never access is collects outcome told ends
-told-by_head collects ids task client start journal never outcome Refs is told ends = ends
-told-by_head collects ids task client start journal never outcome (Collect cutoff) is told ends = ends
-told-by_head collects ids task client start journal never outcome (Expire cutoff drop_branches drop_tags) is told ends = ends
-told-by_head collects ids task client start journal never outcome Check is told ends = check-plain collects task.line client start outcome journal told
+told-by_head : (collects : Bool) (ids : AnyIds) (task : Task) (client : ℕ) (start journal : List Event) → IsGoodJournal journal → NeverHides ids task client start journal → (outcome : Outcome) → (head : Head) → task.head ≡ head → TellsBy head ids task client start outcome journal → EndsBy collects head outcome.end → strange_end collects outcome.end ≡ false
+told-by_head collects ids task client start journal good never outcome (Session access) is told ends =
+    let made = released-made client told.session.shown told.ended outcome.shown journal told.released in
+    let hides = earlier-hides ids task client start told.ended journal good made never in
+    ap (strange_end collects) told.end_is ∙ told-plain ids task client start told.ended hides access is collects told.session told.tells (subst (EndsFine collects) told.end_is ends)
+told-by_head collects ids task client start journal good never outcome Refs is told ends = ends
+told-by_head collects ids task client start journal good never outcome (Collect cutoff) is told ends = ends
+told-by_head collects ids task client start journal good never outcome (Expire cutoff drop_branches drop_tags) is told ends = ends
+told-by_head collects ids task client start journal good never outcome Check is told ends = check-plain collects task.line client start outcome journal told
 
 -- where a task collects, some one does
 collects-at : (tasks : List Task) (place : ℕ) (task : Task) (cutoff : ℕ) → slice_get tasks place ≡ Some task → task.head ≡ Collect cutoff → has_collection tasks ≡ true
@@ -111,14 +116,14 @@ new-puts ids mine who f g journal bytes (Chunk id) o = g id o
 new-puts ids mine who f g journal bytes (Branch name) o = absurd o
 new-puts ids mine who f g journal bytes (Tag name) o = absurd o
 new-puts ids mine who f g journal bytes (Tombstone name) o = absurd o
-new-puts ids mine who f g journal bytes (Lease id) o = absurd o
+new-puts ids mine who f g journal bytes (Lease id) o = g id o
 
 owes-puts : (ids : AnyIds) (mine : Sessions) (who : Id12 → Type 0) → ((h : List Event) (s : SessionState) (id : Id12) → mine h s id → who id) → ((id : Id12) → MayDrawObject ids id → who id) → (journal : List Event) (op : Op) → Owes ids mine journal op → Puts who op
 owes-puts ids mine who f g journal (Get key) o = tt
 owes-puts ids mine who f g journal (ListPart part) o = tt
 owes-puts ids mine who f g journal (PutNew key bytes why) o = new-puts ids mine who f g journal bytes key o
 owes-puts ids mine who f g journal (PutOver key bytes old why) o = tt
-owes-puts ids mine who f g journal (Remove key why) o = absurd o
+owes-puts ids mine who f g journal (Remove key why) o = tt
 owes-puts ids mine who f g journal (RemoveAt key old why) o = absurd o
 
 -- what a collection may do puts nothing
@@ -143,13 +148,13 @@ either-puts : InitialLaw → (who : Id12 → Type 0) (op : Op) → IsPlainOrClea
 either-puts initial who op (inl p) = puts-weaker (λ id. ⊥) who (λ id d. absurd d) op (plain-puts initial op p)
 either-puts initial who op (inr c) = cleanup-puts who op c
 
--- a task that opens a session removes nothing, nor does the opening, the closing reading, or a task on refs; and an expiry removes no object
+-- a task that opens a session removes no object, nor does the opening, the closing reading, or a task on refs; and an expiry removes no object
 owes-keeps : (ids : AnyIds) (mine : Sessions) (journal : List Event) (op : Op) → Owes ids mine journal op → Keeps op
 owes-keeps ids mine journal (Get key) o = tt
 owes-keeps ids mine journal (ListPart part) o = tt
 owes-keeps ids mine journal (PutNew key bytes why) o = tt
 owes-keeps ids mine journal (PutOver key bytes old why) o = tt
-owes-keeps ids mine journal (Remove key why) o = absurd o
+owes-keeps ids mine journal (Remove key why) o = gone-keeps ids why key o
 owes-keeps ids mine journal (RemoveAt key old why) o = absurd o
 
 plain-keeps : (op : Op) → IsPlain op → Keeps op
@@ -165,7 +170,7 @@ cleanup-keeps (Get key) c stays = tt
 cleanup-keeps (ListPart part) c stays = tt
 cleanup-keeps (PutNew key bytes why) c stays = tt
 cleanup-keeps (PutOver key bytes old why) c stays = tt
-cleanup-keeps (Remove key why) c stays = stays tt
+cleanup-keeps (Remove key why) c stays = stays
 cleanup-keeps (RemoveAt key old why) c stays = absurd c
 
 either-keeps : (op : Op) → IsPlainOrCleanup op → ¬ IsRemoval op → Keeps op
@@ -270,6 +275,7 @@ module _ (initial : InitialLaw) (run : RunLaw) (draw : Draw) (tasks : List Task)
     log = free-others (λ i. ⊥) (Txn id) [] opening.own (spared-log id (λ i. ⊥) (λ x. x)) opening-tidy (nothing-stands (Txn id));
     manifest = free-others (λ i. ⊥) (Manifest id) [] opening.own (spared-manifest id (λ i. ⊥) (λ x. x)) opening-tidy (nothing-stands (Manifest id));
     chunk = free-others (λ i. ⊥) (Chunk id) [] opening.own (spared-chunk id (λ i. ⊥) (λ x. x)) opening-tidy (nothing-stands (Chunk id));
+    lease = free-others (λ i. ⊥) (Lease id) [] opening.own (spared-lease id (λ i. ⊥) (λ x. x)) opening-tidy (nothing-stands (Lease id));
   })
 
   -- what a client of the run knows when the tasks begin
@@ -342,7 +348,9 @@ module _ (initial : InitialLaw) (run : RunLaw) (draw : Draw) (tasks : List Task)
 
       -- of a task that opens a session, calls on refs, collects, expires, or checks
       headed-well : SnapshotLaw → (task : Task) → slice_get tasks k ≡ Some task → Before client ids begun → NodesAreNew ids begun → (head : Head) → task.head ≡ head → PlayMeets (λ o. EndsBy (has_collection tasks) head o.end) watch (headed_play head ids task) begun
-      headed-well law task at before nodes (Session access) is = session-meets client ids law access task.line task.body (well-at draw tasks wells k task at).body begun (ids_at-of draw k) before nodes
+      headed-well law task at before nodes (Session access) is =
+          followed-meets (λ (o : Outcome). EndsFine (has_collection tasks) o.end) (λ (o : Outcome). EndsFine (has_collection tasks) o.end) watch (session_play ids access task.line task.body) release_all begun
+          (session-meets client ids law access task.line task.body (well-at draw tasks wells k task at).body begun (ids_at-of draw k) before nodes) (λ o h fine. releases-meet (EndsFine (has_collection tasks)) watch o.end fine [] o.shown h)
       headed-well law task at before nodes Refs is = calls-meet client ids task.body [] begun (record { tidy = before.tidy; so_far = before.so_far })
       headed-well law task at before nodes (Collect cutoff) is = collection-meets client ids law (collects-at tasks k task cutoff at is) task.line cutoff begun (record { tidy = before.tidy; so_far = before.so_far })
       headed-well law task at before nodes (Expire cutoff drop_branches drop_tags) is = expiry-meets client ids task.line (terms_of cutoff drop_branches drop_tags) begun (record { tidy = before.tidy; so_far = before.so_far })
@@ -407,9 +415,9 @@ module _ (initial : InitialLaw) (run : RunLaw) (law : SnapshotLaw) (draw : Draw)
       by_cases (inr c) = let past = c.0 in absurd (omega (arith, past, within))
   task-of old new (Err why) outcomes p place outcome at = let no = sym (ap (λ (os : List Outcome). slice_get os place) p.1) ∙ at in absurd cc
 
-  pub course-plain : (old new : View) (opening : Result (Unit {0}) Refusal) (outcomes : List Outcome) (refs : Result (List RefLine) Refusal) → (c : Course draw script old new opening outcomes refs) → NoneHidden draw script.tasks old.seen new.seen → IsTrue old.caller.tells → old.seen ≡ []
+  pub course-plain : (old new : View) (opening : Result (Unit {0}) Refusal) (outcomes : List Outcome) (refs : Result (List RefLine) Refusal) → (c : Course draw script old new opening outcomes refs) → NoneHidden draw script.tasks old.seen new.seen → IsGoodJournal new.seen → IsTrue old.caller.tells → old.seen ≡ []
       → NothingStrange (has_collection script.tasks) opening outcomes refs
-  course-plain old new opening outcomes refs c none told empty =
+  course-plain old new opening outcomes refs c none good told empty =
       let all : HasAll (as_client 0 old).caller = record { low = c.alone.low; end = c.alone.end } in
       let last_all : HasAll (as_client 0 c.played).caller = record { low = c.still_alone.low; end = c.still_alone.end } in
       let begun_tells : IsTrue c.begun.caller.tells = subst (λ (b : Caller). IsTrue b.tells) (sym c.begins.same) told in
@@ -424,7 +432,7 @@ module _ (initial : InitialLaw) (run : RunLaw) (law : SnapshotLaw) (draw : Draw)
         opened = answers-plain begin_program opening [] c.begun.seen first (begin-meets (λ id. ⊥) []);
         tasks = λ place outcome at.
             let task = task-of c.begun c.played opening outcomes c.plays place outcome at in
-            told-by_head (has_collection script.tasks) (ids_at draw place) task.0 (place + 1) c.begun.seen new.seen (λ lost since key bad. none c.begun.seen since place task.0 lost key bad opened task.1) outcome task.0.head refl (c.told told place task.0 outcome task.1 at) (fine place outcome at task.0 task.1);
+            told-by_head (has_collection script.tasks) (ids_at draw place) task.0 (place + 1) c.begun.seen new.seen good (λ lost since key bad. none c.begun.seen since place task.0 lost key bad opened task.1) outcome task.0.head refl (c.told told place task.0 outcome task.1 at) (fine place outcome at task.0 task.1);
         closed = answers-plain refs_program refs c.played.seen new.seen last (refs-meets (λ id. ⊥) c.played.seen (plays-tidy c.begun c.played opening outcomes begun_tells c.plays tidy));
       }
 
@@ -434,5 +442,5 @@ played-plain initial law run draw script old new (Ok played) well c told empty o
     let sound : IsSound old.seen (λ n. none) = subst (λ (h : List Event). IsSound h (λ n. none)) (sym empty) (nothing-law.0 (λ n. none)) in
     let new_run : IsNewRun draw script.tasks old.seen = subst (λ (h : List Event). IsNewRun draw script.tasks h) (sym empty) (record { once = once; sources = λ place within. nothing-law.1 (ids_at draw place); unput = λ collects place within. nothing-law.2 (ids_at draw place) }) in
     let histories = run draw script.tasks (λ n. none) old.seen new.seen sound new_run (course-run draw script old new played.opening played.outcomes.items played.refs well.tasks c told) in
-    course-plain initial run law draw script once well.tasks old new played.opening played.outcomes.items played.refs c histories.unhidden told empty
+    course-plain initial run law draw script once well.tasks old new played.opening played.outcomes.items played.refs c histories.unhidden histories.sound.good told empty
 played-plain initial law run draw script old new (Err error) well c told empty once = tt

@@ -12,19 +12,19 @@ use Rattle.store_api.specs.Callers.{View, Waits}
 use Rattle.store_api.specs.Program.{Prog, Done, Ask as Ask_next, is_ask, moves_branch, is_no_memory, Lands, IsSure, Steps, Blames}
 use Rattle.store_api.specs.Plays.{Play, call, behind, Comes, Acts, Acted, Starved, dooms, BlamesEnd}
 use Rattle.play_outcome.specs.declared.outcome.Outcome.{Outcome}
-use Rattle.play_outcome.specs.Ending.{is_failed}
+use Rattle.play_outcome.specs.Ending.{ends_failed}
 use Rattle.play_outcome.specs.Settling.{settled, ComesOrStarves, Faults}
 
 pub is_memory : (why : Refusal) → is_no_memory why ≡ true → why ≡ NoMemory
 is_memory NoMemory e = refl
 is_memory _ e = absurd cc
 
-blamed : {T : Type 0} (result : Result (Next T) Refusal) (p r : Play Outcome) (m n : ℕ) → Blames result m n → Faults result r → BlamesEnd is_failed p r m n
+blamed : {T : Type 0} (result : Result (Next T) Refusal) (p r : Play Outcome) (m n : ℕ) → Blames result m n → Faults result r → BlamesEnd ends_failed p r m n
 blamed (Ok t) p r m n b g = (b, λ doomed. absurd (false≢true (g doomed)))
 blamed (Err why) p r m n b g = (b.0, λ doomed. inr (b.1 (g doomed)))
 
 -- where it was bound to tell a fault before
-was-doomed : {T : Type 0} (result : Result (Next T) Refusal) (p r : Play Outcome) (m n : ℕ) → Blames result m n → dooms is_failed p ≡ true → BlamesEnd is_failed p r m n
+was-doomed : {T : Type 0} (result : Result (Next T) Refusal) (p r : Play Outcome) (m n : ℕ) → Blames result m n → dooms ends_failed p ≡ true → BlamesEnd ends_failed p r m n
 was-doomed (Ok t) p r m n b before = (b, λ doomed. inl before)
 was-doomed (Err why) p r m n b before = (b.0, λ doomed. inl before)
 
@@ -71,11 +71,11 @@ module _ {T : Type 0} (f : Result T Refusal → Play Outcome) (r : Play Outcome)
     | inr n ↦ inr (starves old new p live n.waits (subst (λ (x : Result (Next T) Refusal). Comes (settled f q x) r) n.result_is c))
   ]
 
-  pub acts : (old new : View) (p q : Prog (Result T Refusal)) (result : Result (Next T) Refusal) → is_ask p ≡ true → Steps old new p q result → Comes (settled f q result) r → Faults result r → Acts is_failed old new (call p f) r
+  pub acts : (old new : View) (p q : Prog (Result T Refusal)) (result : Result (Next T) Refusal) → is_ask p ≡ true → Steps old new p q result → Comes (settled f q result) r → Faults result r → Acts ends_failed old new (call p f) r
   acts old new p q result live s c b = record { same = s.same; blames = blamed result (call p f) r old.faults new.faults s.blames b; went = went old new p q result live s c }
 
   -- ... of a play that was bound to tell a fault before, whatever its machine answers
-  pub acts-doomed : (old new : View) (p q : Prog (Result T Refusal)) (result : Result (Next T) Refusal) → is_ask p ≡ true → Steps old new p q result → Comes (settled f q result) r → dooms is_failed (call p f) ≡ true → Acts is_failed old new (call p f) r
+  pub acts-doomed : (old new : View) (p q : Prog (Result T Refusal)) (result : Result (Next T) Refusal) → is_ask p ≡ true → Steps old new p q result → Comes (settled f q result) r → dooms ends_failed (call p f) ≡ true → Acts ends_failed old new (call p f) r
   acts-doomed old new p q result live s c before = record { same = s.same; blames = was-doomed result (call p f) r old.faults new.faults s.blames before; went = went old new p q result live s c }
 
   -- ---- machines that only read, behind whose answers there may be no memory
@@ -87,7 +87,7 @@ module _ {T : Type 0} (f : Result T Refusal → Play Outcome) (r : Play Outcome)
   stopped-read q result is (inl c) = subst (λ (x : Result (Next T) Refusal). Comes (settled f q x) r) is c
   stopped-read q result is (inr c) = c
 
-  pub acts-reads : (old new : View) (p q : Prog (Result T Refusal)) (result : Result (Next T) Refusal) → ((op : Op) (next : Reply → Prog (Result T Refusal)) → p ≡ Ask_next op next → moves_branch op ≡ false) → is_ask p ≡ true → Steps old new p q result → ComesOrStarves f q result r → Faults result r → Acts is_failed old new (call p f) r
+  pub acts-reads : (old new : View) (p q : Prog (Result T Refusal)) (result : Result (Next T) Refusal) → ((op : Op) (next : Reply → Prog (Result T Refusal)) → p ≡ Ask_next op next → moves_branch op ≡ false) → is_ask p ≡ true → Steps old new p q result → ComesOrStarves f q result r → Faults result r → Acts ends_failed old new (call p f) r
   acts-reads old new p q result reads live s c b = record {
     same = s.same;
     blames = blamed result (call p f) r old.faults new.faults s.blames b;

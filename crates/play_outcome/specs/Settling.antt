@@ -7,7 +7,7 @@ use Rattle.store_api.specs.declared.machines.Refusal.TheVariants.{NoMemory}
 use Rattle.store_api.specs.Program.{Prog, is_fault}
 use Rattle.store_api.specs.Plays.{Play, call, Comes, dooms}
 use Rattle.play_outcome.specs.declared.outcome.Outcome.{Outcome}
-use Rattle.play_outcome.specs.Ending.{is_failed}
+use Rattle.play_outcome.specs.Ending.{ends_failed}
 
 -- what is left to do after a step of a machine that has q left
 abbrev pub settled : {A B : Type 0} → (Result A Refusal → Play B) → Prog (Result A Refusal) → Result (Next A) Refusal → Play B
@@ -29,6 +29,6 @@ abbrev pub tells_fault : {T : Type 0} → Result (Next T) Refusal → Bool
 tells_fault (Ok t) = false
 tells_fault (Err why) = is_fault why
 
--- a fault of the store is bound to be told only where the answer told one
+-- a fault of the store is bound to be told at the end only where the answer told one
 abbrev pub Faults : {T : Type 0} → Result (Next T) Refusal → Play Outcome → Type 0
-Faults answer p = dooms is_failed p ≡ true → tells_fault answer ≡ true
+Faults answer p = dooms ends_failed p ≡ true → tells_fault answer ≡ true

@@ -51,6 +51,12 @@ pub enum Shown {
         message: Text,
         props: Props,
     },
+    /// A lease that this line of the script put, or may have put. If its release was refused when the task had ended, why: then it may be left in the store.
+    Lease {
+        line: u32,
+        id: Id12,
+        left: Option<Refusal>,
+    },
 }
 
 /// Lines that a task showed, in order.

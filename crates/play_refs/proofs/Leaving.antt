@@ -37,6 +37,7 @@ passed (call.Edit edit) line shown rest other = refl
 passed (call.Read read) line shown rest other = refl
 passed (call.Commit message) line shown rest other = refl
 passed (call.Prop name value) line shown rest other = refl
+passed call.Lease line shown rest other = refl
 
 pub one_on : (body : List Line) (i : ℕ) (l : Line) (shown : List Shown) (q : Play Outcome) → i < length body → l ≡ slice_index_or body i l → ((own : RefCall) → l.call ≡ call.Ref own → ⊥) → Comes (lines_from body (i + 1) shown) q → Comes (lines_from body i shown) q
 one_on body i l shown q within is other k =

@@ -7,3 +7,4 @@ pub mod Beginning
 pub mod Leaving
 pub mod Reading
 pub mod Calm
+pub mod Plain

@@ -93,6 +93,7 @@ module _ (by : Caller) (law : RefsLaw by) where
     by-call (call.Read read) made refusal starved = subst (λ (x : List Shown). GoesWell by R (rest x) journal) (append-nil shown) (made [] journal (refl, refl))
     by-call (call.Commit message) made refusal starved = subst (λ (x : List Shown). GoesWell by R (rest x) journal) (append-nil shown) (made [] journal (refl, refl))
     by-call (call.Prop name value) made refusal starved = subst (λ (x : List Shown). GoesWell by R (rest x) journal) (append-nil shown) (made [] journal (refl, refl))
+    by-call call.Lease made refusal starved = subst (λ (x : List Shown). GoesWell by R (rest x) journal) (append-nil shown) (made [] journal (refl, refl))
 
   -- where no operation was made in the line
   nothing-starved : (c : Call) (journal : List Event) → StarvedLine by.number c journal journal
@@ -106,6 +107,7 @@ module _ (by : Caller) (law : RefsLaw by) where
   nothing-starved (call.Read read) journal = refl
   nothing-starved (call.Commit message) journal = refl
   nothing-starved (call.Prop name value) journal = refl
+  nothing-starved call.Lease journal = refl
 
   -- ---- the lines
   lines-well : (ls : List Line) (shown : List Shown) (journal : List Event) → Well ls journal shown (refs_play ls shown) journal

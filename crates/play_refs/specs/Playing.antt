@@ -60,6 +60,7 @@ play_ref_line line (call.Edit edit) shown rest = rest shown
 play_ref_line line (call.Read read) shown rest = rest shown
 play_ref_line line (call.Commit message) shown rest = rest shown
 play_ref_line line (call.Prop name value) shown rest = rest shown
+play_ref_line line call.Lease shown rest = rest shown
 
 -- the lines in their order, the first that is refused being the last; where memory is wanting, the task ends in this line
 unfoldable pub refs_play : List Line → List Shown → Play Outcome

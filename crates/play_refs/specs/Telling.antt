@@ -97,6 +97,7 @@ DidLine client line (call.Edit edit) start shown journal = (shown ≡ []) × (jo
 DidLine client line (call.Read read) start shown journal = (shown ≡ []) × (journal ≡ start)
 DidLine client line (call.Commit message) start shown journal = (shown ≡ []) × (journal ≡ start)
 DidLine client line (call.Prop name value) start shown journal = (shown ≡ []) × (journal ≡ start)
+DidLine client line call.Lease start shown journal = (shown ≡ []) × (journal ≡ start)
 
 -- it was refused, for this reason
 abbrev pub RefusedLine : ℕ → Call → List Event → Refusal → List Event → Type 0
@@ -105,6 +106,7 @@ RefusedLine client (call.Edit edit) start w journal = ⊥
 RefusedLine client (call.Read read) start w journal = ⊥
 RefusedLine client (call.Commit message) start w journal = ⊥
 RefusedLine client (call.Prop name value) start w journal = ⊥
+RefusedLine client call.Lease start w journal = ⊥
 
 -- memory was wanting in it
 abbrev pub StarvedLine : ℕ → Call → List Event → List Event → Type 0
@@ -113,6 +115,7 @@ StarvedLine client (call.Edit edit) start journal = journal ≡ start
 StarvedLine client (call.Read read) start journal = journal ≡ start
 StarvedLine client (call.Commit message) start journal = journal ≡ start
 StarvedLine client (call.Prop name value) start journal = journal ≡ start
+StarvedLine client call.Lease start journal = journal ≡ start
 
 -- These lines were called one after another, from `start` up to `journal`, each where the one before it had ended; what they showed.
 unfoldable pub CallsTold : ℕ → List Line → List Event → List Shown → List Event → Type 0

@@ -1,10 +1,11 @@
 //! The lines of a task's body, from one that calls on refs to the next.
 
-ghost use Rattle.std.specs.Prelude.{ℕ, ◌≡◌, ◌≤◌, ◌+◌, ◌-◌, ◌*◌, ◌++◌, List, true, length, map, IfOk, OnErr};
+ghost use Rattle.std.specs.Prelude.{ℕ, ◌≡◌, ◌≤◌, ◌+◌, ◌-◌, ◌*◌, ◌++◌, List, true, false, length, map, IfOk, OnErr};
 ghost use Rattle.store_api.specs.Plays.{Comes, Or};
+ghost use Rattle.play_outcome.specs.Ending.{shows_failed};
 ghost use Rattle.play_outcome.specs.Playing.{refused};
 ghost use Rattle.play_refs.specs.Playing.{log_shown, ref_play, after_ref};
-ghost use Rattle.play_refs.specs.inside.Working.{Begins, is_well, lines_from, most_steps, working_left, working_rest};
+ghost use Rattle.play_refs.specs.inside.Working.{Begins, is_well, lines_from, most_steps, shown_in, working_left, working_rest};
 
 use crate::working::{RefMachine, RefMaker, Working};
 use play_outcome::{End, Outcome, Shown, Shows};
@@ -91,12 +92,14 @@ fn machine_of(alloc: Global, call: &RefCall) -> Result<RefMachine, AllocError>
 /// Begins a call by this line of the script; the line behind it has the number `at`. Where there is no memory for that, the
 /// task ends.
 fn begin_call(alloc: Global, line: u32, at: usize, call: &RefCall, shown: Vec<Shown>) -> Working
+    requires plain { shows_failed shown.items ≡ false }
     ensures comes { (body : List Line)
         → Comes (Or (ref_play line call.now (after_ref line shown.items (lines_from body at)))
         (refused line shown.items Refusal.NoMemory)) (working_rest body result) }
     ensures clean { is_well result ≡ true }
     ensures bounded { (lines : ℕ) → working_left lines result ≤ (lines - at) * most_steps
         + most_steps }
+    ensures plain { shows_failed (shown_in result) ≡ false }
 {
     match machine_of(alloc, call) {
         Ok(machine) => Working::Calling {
@@ -111,10 +114,12 @@ fn begin_call(alloc: Global, line: u32, at: usize, call: &RefCall, shown: Vec<Sh
 
 /// Plays the lines of a body from a number on, with these lines shown: up to the first that calls on refs, or to their end.
 pub(crate) fn play_lines(alloc: Global, body: &[Line], from: usize, shown: Vec<Shown>) -> Working
+    requires plain { shows_failed shown.items ≡ false }
     ensures leaves { Comes (lines_from body.now from shown.items) (working_rest body.now result) }
     ensures clean { is_well result ≡ true }
     ensures bounded { working_left (length body.now) result ≤ (length body.now - from)
         * most_steps }
+    ensures plain { shows_failed (shown_in result) ≡ false }
 {
     for at in from..body.len() {
         let line = &body[at];

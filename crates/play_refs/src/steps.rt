@@ -1,12 +1,12 @@
 //! The steps of a worker's machines, and what follows them.
 
-ghost use Rattle.std.specs.Prelude.{◌≡◌, ◌<◌, ◌≤◌, ◌+◌, ◌-◌, ◌*◌, true, length, IsTrue};
+ghost use Rattle.std.specs.Prelude.{◌≡◌, ◌<◌, ◌≤◌, ◌+◌, ◌-◌, ◌*◌, true, false, length, IsTrue};
 ghost use Rattle.store_api.specs.Program.{IsAsk, is_ask, NextIsPolite, Steps};
 ghost use Rattle.store_api.specs.Plays.{call, Acts, Comes, IsLive, PlayIsPolite};
-ghost use Rattle.play_outcome.specs.Ending.{is_failed};
+ghost use Rattle.play_outcome.specs.Ending.{ends_failed, shows_failed};
 ghost use Rattle.play_outcome.specs.Settling.{answers_well, settled, ComesOrStarves, Faults};
 ghost use Rattle.refs_admin.specs.inside.Working.{log_rest, log_left};
-ghost use Rattle.play_refs.specs.inside.Working.{maker_rest, maker_left, after_making, after_reading, is_working, lines_from, most_steps, working_left, working_rest};
+ghost use Rattle.play_refs.specs.inside.Working.{maker_rest, maker_left, after_making, after_reading, is_working, lines_from, most_steps, shown_in, working_left, working_rest};
 
 use crate::lines::{play_lines, refuse, show_log};
 use crate::working::{RefMachine, RefMaker, Working};
@@ -46,13 +46,15 @@ fn after_making(
     maker: RefMaker,
     answer: Result<Next<()>, Refusal>,
 ) -> Working
-    requires { answers_well (is_ask (maker_rest maker)) answer ≡ true }
+    requires answers { answers_well (is_ask (maker_rest maker)) answer ≡ true }
+    requires plain { shows_failed shown.items ≡ false }
     ensures comes { Comes (settled (after_making line shown.items (lines_from body.now at))
         (maker_rest maker) answer) (working_rest body.now result) }
     ensures works { is_working result ≡ true }
     ensures falls { working_left (length body.now) result ≤ (length body.now - at) * most_steps
         + maker_left maker }
     ensures blames { Faults answer (working_rest body.now result) }
+    ensures plain { shows_failed (shown_in result) ≡ false }
 {
     match answer {
         Ok(Next::Again) => Working::Calling {
@@ -68,6 +70,7 @@ fn after_making(
 
 /// Where a worker stands after a step of the machine that reads a log. Where there is no memory to show the log, the task ends
 /// as if there had been none for the step.
+#[tactic(auto, using(crate::proofs::Plain::logs_plain))]
 fn after_reading(
     alloc: Global,
     body: &[Line],
@@ -77,13 +80,15 @@ fn after_reading(
     log: Log,
     answer: Result<Next<LogLines>, Refusal>,
 ) -> Working
-    requires { answers_well (is_ask (log_rest log)) answer ≡ true }
+    requires answers { answers_well (is_ask (log_rest log)) answer ≡ true }
+    requires plain { shows_failed shown.items ≡ false }
     ensures comes { ComesOrStarves (after_reading line shown.items (lines_from body.now at))
         (log_rest log) answer (working_rest body.now result) }
     ensures works { is_working result ≡ true }
     ensures falls { working_left (length body.now) result ≤ (length body.now - at) * most_steps
         + log_left log }
     ensures blames { Faults answer (working_rest body.now result) }
+    ensures plain { shows_failed (shown_in result) ≡ false }
 {
     let lines = match answer {
         Ok(Next::Again) => {
@@ -116,12 +121,14 @@ fn step_making<S: Store>(
     requires live { is_ask (maker_rest maker) ≡ true }
     requires polite { IsTrue (S.view store.old).caller.tells
         → NextIsPolite (maker_rest maker) (S.view store.old).seen }
-    ensures acts { Acts is_failed (S.view store.old) (S.view store.new)
+    requires plain { shows_failed shown.items ≡ false }
+    ensures acts { Acts ends_failed (S.view store.old) (S.view store.new)
         (call (maker_rest maker) (after_making line shown.items (lines_from body.now at)))
         (working_rest body.now result) }
     ensures works { is_working result ≡ true }
     ensures falls { working_left (length body.now) result < (length body.now - at) * most_steps
         + maker_left maker }
+    ensures plain { shows_failed (shown_in result) ≡ false }
 {
     let answer = maker.step(store);
     after_making(alloc, body, line, at, shown, maker, answer)
@@ -138,12 +145,14 @@ fn step_reading<S: Store>(
     store: &mut S,
 ) -> Working
     requires live { is_ask (log_rest log) ≡ true }
-    ensures acts { Acts is_failed (S.view store.old) (S.view store.new)
+    requires plain { shows_failed shown.items ≡ false }
+    ensures acts { Acts ends_failed (S.view store.old) (S.view store.new)
         (call (log_rest log) (after_reading line shown.items (lines_from body.now at)))
         (working_rest body.now result) }
     ensures works { is_working result ≡ true }
     ensures falls { working_left (length body.now) result < (length body.now - at) * most_steps
         + log_left log }
+    ensures plain { shows_failed (shown_in result) ≡ false }
 {
     let answer = log.step(store);
     after_reading(alloc, body, line, at, shown, log, answer)
@@ -158,12 +167,14 @@ pub(crate) fn step_on<S: Store>(
 ) -> Working
     requires live { IsLive (working_rest body.now state) }
     requires works { is_working state ≡ true }
+    requires plain { shows_failed (shown_in state) ≡ false }
     requires polite { IsTrue (S.view store.old).caller.tells
         → PlayIsPolite (working_rest body.now state) (S.view store.old).seen }
-    ensures acts { Acts is_failed (S.view store.old) (S.view store.new)
+    ensures acts { Acts ends_failed (S.view store.old) (S.view store.new)
         (working_rest body.now state) (working_rest body.now result) }
     ensures works { is_working result ≡ true }
     ensures falls { working_left (length body.now) result < working_left (length body.now) state }
+    ensures plain { shows_failed (shown_in result) ≡ false }
 {
     match state {
         Working::Calling {

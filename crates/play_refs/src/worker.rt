@@ -1,7 +1,8 @@
 //! Workers.
 
-ghost use Rattle.std.specs.Prelude.{◌≡◌, true};
-ghost use Rattle.play_refs.specs.inside.Working.{is_working};
+ghost use Rattle.std.specs.Prelude.{◌≡◌, true, false};
+ghost use Rattle.play_outcome.specs.Ending.{shows_failed};
+ghost use Rattle.play_refs.specs.inside.Working.{is_working, shown_in};
 
 use crate::lines::play_lines;
 use crate::steps::step_on;
@@ -20,6 +21,7 @@ pub struct RefsWorker<'a> {
     body: &'a [Line],
     state: Working,
     ghost works: { is_working state ≡ true },
+    ghost plain: { shows_failed (shown_in state) ≡ false },
 }
 
 impl<'a> RefsWorker<'a> {

@@ -1,5 +1,5 @@
 -- The report of a run (own): lines of words.
-use Rattle.std.specs.Prelude.{ℕ, ℤ, ◌/◌, ◌%◌, ◌==◌, nat_lt, List, [], ◌∷◌, ◌++◌, map, Bool, true, false, ◌&&◌, ◌||◌, if◌then◌else◌, Option, Some, None, Result, Ok, Err, codes, decimal}
+use Rattle.std.specs.Prelude.{ℕ, ℤ, is_some, ◌/◌, ◌%◌, ◌==◌, nat_lt, List, [], ◌∷◌, ◌++◌, map, Bool, true, false, ◌&&◌, ◌||◌, if◌then◌else◌, Option, Some, None, Result, Ok, Err, codes, decimal}
 use Rattle.std.specs.List.{flat_map}
 use Rattle.std.specs.Fmt.{signed_decimal}
 use Rattle.std.specs.Char.{digit_char}
@@ -17,7 +17,7 @@ use Rattle.check_reports.specs.declared.faults.CheckFault.{CheckFault}
 use Rattle.check_reports.specs.declared.faults.Checked.{Checked as Counts}
 use Rattle.store_api.specs.declared.machines.Refusal.{Refusal}
 use Rattle.play_outcome.specs.declared.outcome.Shown.{Shown}
-use Rattle.play_outcome.specs.declared.outcome.Shown.TheVariants.{Node, Meta, Chunk, Fill, Cells, Key, Log}
+use Rattle.play_outcome.specs.declared.outcome.Shown.TheVariants.{Node, Meta, Chunk, Fill, Cells, Key, Log, Lease}
 use Rattle.play_outcome.specs.declared.outcome.How.{How}
 use Rattle.play_outcome.specs.declared.outcome.How.TheVariants as how
 use Rattle.play_outcome.specs.declared.outcome.End.{End}
@@ -64,6 +64,11 @@ abbrev pub value_text : Option (List ℕ) → List ℕ
 value_text None = codes "absent"
 value_text (Some bytes) = bytes_text bytes
 
+-- why a lease was left, if it was
+abbrev pub why_text : Option Refusal → List ℕ
+why_text None = []
+why_text (Some why) = refusal_text why
+
 -- what a task showed, behind its name
 abbrev pub shown_text : Shown → List ℕ
 shown_text (Node line array path) = decimal line space codes "list" space node_kind array space path
@@ -74,6 +79,7 @@ shown_text (Cells line numbers) = decimal line space codes "cells" space cells_t
 shown_text (Key line bytes) = decimal line space codes "zget" space value_text bytes
 shown_text (Log line snapshot flushed_at message props) =
     decimal line space codes "log" space id12_text snapshot space decimal flushed_at space map printed message
+shown_text (Lease line id left) = decimal line space codes "unreleased" space id12_text id space why_text left
 
 abbrev pub shown_line : List ℕ → Shown → List ℕ
 shown_line name shown = line_of name (shown_text shown)
@@ -94,9 +100,36 @@ property_lines name (Fill line) = []
 property_lines name (Cells line numbers) = []
 property_lines name (Key line bytes) = []
 property_lines name (Log line snapshot flushed_at message props) = flat_map (property_line name line) props
+property_lines name (Lease line id left) = []
 
+abbrev pub is_lease : Shown → Bool
+is_lease (Node line array path) = false
+is_lease (Meta line text) = false
+is_lease (Chunk line bytes) = false
+is_lease (Fill line) = false
+is_lease (Cells line numbers) = false
+is_lease (Key line bytes) = false
+is_lease (Log line snapshot flushed_at message props) = false
+is_lease (Lease line id left) = true
+
+-- a lease shows nothing where it was put
 abbrev pub shown_lines : List ℕ → Shown → List ℕ
-shown_lines name shown = shown_line name shown ++ property_lines name shown
+shown_lines name shown = if is_lease shown then [] else shown_line name shown ++ property_lines name shown
+
+-- a lease whose release was refused
+abbrev pub is_left : Shown → Bool
+is_left (Node line array path) = false
+is_left (Meta line text) = false
+is_left (Chunk line bytes) = false
+is_left (Fill line) = false
+is_left (Cells line numbers) = false
+is_left (Key line bytes) = false
+is_left (Log line snapshot flushed_at message props) = false
+is_left (Lease line id left) = is_some left
+
+-- such a one is a line behind all that was shown
+abbrev pub left_lines : List ℕ → Shown → List ℕ
+left_lines name shown = if is_left shown then shown_line name shown else []
 
 -- how many snapshots, logs, manifests and objects with chunks a collection removed
 abbrev pub removed_text : Removed → List ℕ
@@ -197,9 +230,10 @@ end_text (InDoubt id how) = codes "indoubt" space id12_text id space how_text ho
 end_text (Expired line cases result) = result_text line result
 end_text (Checked line faults result) = checked_text line result
 
--- what a task showed in order, what it had done, and then how it ended
+-- what a task showed in order, the leases that it left, what it had done, and then how it ended
 abbrev pub outcome_text : List ℕ → Outcome → List ℕ
-outcome_text name outcome = flat_map (shown_lines name) outcome.shown ++ (done_lines name outcome.end ++ line_of name (end_text outcome.end))
+outcome_text name outcome =
+    flat_map (shown_lines name) outcome.shown ++ (flat_map (left_lines name) outcome.shown ++ (done_lines name outcome.end ++ line_of name (end_text outcome.end)))
 
 -- each task in order, under its name; what one list has beyond the other is left out
 abbrev pub tasks_text : List (List ℕ) → List Outcome → List ℕ

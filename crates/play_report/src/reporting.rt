@@ -4,7 +4,7 @@
 ghost use Rattle.std.specs.Prelude.{◌≡◌, map};
 ghost use Rattle.std.specs.List.{flat_map};
 ghost use Rattle.drafts.specs.Drafts.{Took};
-ghost use Rattle.play_report.specs.Report.{line_of, is_nothing, removed_text, removed_lines, done_lines, end_text, property_lines, shown_line, shown_lines, outcome_text, tasks_text, ref_line, refs_text, refused_line, played_text, report_of};
+ghost use Rattle.play_report.specs.Report.{line_of, is_nothing, removed_text, removed_lines, done_lines, end_text, property_lines, shown_line, is_lease, shown_lines, is_left, left_lines, outcome_text, tasks_text, ref_line, refs_text, refused_line, played_text, report_of};
 
 use crate::cases::add_cases;
 use crate::checks::add_faults;
@@ -37,15 +37,34 @@ fn add_property_lines<K: Sink>(out: &mut Draft, to: &mut K, name: &[u8], shown: 
         | Shown::Chunk { .. }
         | Shown::Fill { .. }
         | Shown::Cells { .. }
-        | Shown::Key { .. } => {}
+        | Shown::Key { .. }
+        | Shown::Lease { .. } => {}
         Shown::Log { line, props, .. } => add_properties(out, to, name, *line, props),
     }
 }
 
-/// What a task showed: a line, and one for each property of a snapshot of a log.
+fn is_lease(shown: &Shown) -> bool
+    ensures { result ≡ is_lease shown.now }
+{
+    match shown {
+        Shown::Node { .. }
+        | Shown::Meta { .. }
+        | Shown::Chunk { .. }
+        | Shown::Fill { .. }
+        | Shown::Cells { .. }
+        | Shown::Key { .. }
+        | Shown::Log { .. } => false,
+        Shown::Lease { .. } => true,
+    }
+}
+
+/// What a task showed: a line, and one for each property of a snapshot of a log; but nothing of a lease.
 fn add_shown_lines<K: Sink>(out: &mut Draft, to: &mut K, name: &[u8], shown: &Shown)
     ensures { Took out.old (K.at to.old) (shown_lines name.now shown.now) out.new (K.at to.new) }
 {
+    if is_lease(shown) {
+        return;
+    }
     add_shown_line(out, to, name, shown);
     add_property_lines(out, to, name, shown);
 }
@@ -57,6 +76,41 @@ fn add_all_shown<K: Sink>(out: &mut Draft, to: &mut K, name: &[u8], all: &[Shown
 {
     for shown in all {
         add_shown_lines(out, to, name, shown);
+    }
+}
+
+fn is_left(shown: &Shown) -> bool
+    ensures { result ≡ is_left shown.now }
+{
+    match shown {
+        Shown::Node { .. }
+        | Shown::Meta { .. }
+        | Shown::Chunk { .. }
+        | Shown::Fill { .. }
+        | Shown::Cells { .. }
+        | Shown::Key { .. }
+        | Shown::Log { .. } => false,
+        Shown::Lease { left, .. } => left.is_some(),
+    }
+}
+
+/// A lease that was left, as a line.
+fn add_left_lines<K: Sink>(out: &mut Draft, to: &mut K, name: &[u8], shown: &Shown)
+    ensures { Took out.old (K.at to.old) (left_lines name.now shown.now) out.new (K.at to.new) }
+{
+    if !is_left(shown) {
+        return;
+    }
+    add_shown_line(out, to, name, shown);
+}
+
+/// The leases that were left, a line for each.
+fn add_all_left<K: Sink>(out: &mut Draft, to: &mut K, name: &[u8], all: &[Shown])
+    ensures { Took out.old (K.at to.old) (flat_map (left_lines name.now) all.now) out.new
+        (K.at to.new) }
+{
+    for shown in all {
+        add_left_lines(out, to, name, shown);
     }
 }
 
@@ -114,11 +168,12 @@ fn add_end_line<K: Sink>(out: &mut Draft, to: &mut K, name: &[u8], end: &End)
     out.add(to, b"\n");
 }
 
-/// Adds what the task of this name showed, line by line, what it had done, and how it ended.
+/// Adds what the task of this name showed, line by line, the leases that it left, what it had done, and how it ended.
 pub fn add_outcome<K: Sink>(out: &mut Draft, to: &mut K, name: &[u8], outcome: &Outcome)
     ensures { Took out.old (K.at to.old) (outcome_text name.now outcome.now) out.new (K.at to.new) }
 {
     add_all_shown(out, to, name, outcome.shown.as_slice());
+    add_all_left(out, to, name, outcome.shown.as_slice());
     add_done_lines(out, to, name, &outcome.end);
     add_end_line(out, to, name, &outcome.end);
 }

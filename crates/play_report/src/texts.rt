@@ -8,7 +8,7 @@ ghost use Rattle.ice_ids.specs.Text.{id12_text};
 ghost use Rattle.drafts.specs.Drafts.{Took};
 ghost use Rattle.play_report.specs.Words.{◌space◌};
 ghost use Rattle.play_report.specs.Refusals.{refusal_text};
-ghost use Rattle.play_report.specs.Report.{node_kind, ref_kind, printed, byte_text, bytes_text, cells_text, value_text, shown_text, removed_text, refused_text, result_text, counts_text, checked_text, how_text, end_text, ref_text};
+ghost use Rattle.play_report.specs.Report.{node_kind, ref_kind, printed, byte_text, bytes_text, cells_text, value_text, why_text, shown_text, removed_text, refused_text, result_text, counts_text, checked_text, how_text, end_text, ref_text};
 
 use crate::cells::add_cells;
 use crate::refusals::add_refusal;
@@ -209,6 +209,28 @@ fn add_log<K: Sink>(
     add_printed_text(out, to, message);
 }
 
+/// Why a lease was left, if it was.
+fn add_left_why<K: Sink>(out: &mut Draft, to: &mut K, left: &Option<Refusal>)
+    ensures { Took out.old (K.at to.old) (why_text left.now) out.new (K.at to.new) }
+{
+    match left {
+        None => {}
+        Some(why) => add_refusal(out, to, why),
+    }
+}
+
+/// A lease that was left, by its line and its id, and why.
+fn add_lease<K: Sink>(out: &mut Draft, to: &mut K, line: u32, id: Id12, left: &Option<Refusal>)
+    ensures { Took out.old (K.at to.old)
+        (decimal line space codes "unreleased" space id12_text id space why_text left.now) out.new
+        (K.at to.new) }
+{
+    add_head(out, to, line, "unreleased");
+    add_id(out, to, id);
+    out.add(to, b" ");
+    add_left_why(out, to, left);
+}
+
 /// What a task showed.
 pub fn add_shown<K: Sink>(out: &mut Draft, to: &mut K, shown: &Shown)
     ensures { Took out.old (K.at to.old) (shown_text shown.now) out.new (K.at to.new) }
@@ -227,6 +249,7 @@ pub fn add_shown<K: Sink>(out: &mut Draft, to: &mut K, shown: &Shown)
             message,
             props: _,
         } => add_log(out, to, *line, *id, *flushed_at, message.as_str()),
+        Shown::Lease { line, id, left } => add_lease(out, to, *line, *id, left),
     }
 }
 

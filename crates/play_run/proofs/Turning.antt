@@ -18,9 +18,6 @@ use Rattle.store_api.proofs.Programs.{alone, has-all, good-waits, Waits-same, Wa
 use Rattle.store_api.proofs.PlayLaws.{PlayKeeps-waits, PlayKeeps-acts, PlayLeads-waits, PlayLeads-acts}
 use Rattle.commit_path.proofs.Owing.{KeepsMine, IsCareful-append}
 use Rattle.commit_path.proofs.Knowing.{IsOpened-append}
-use Rattle.commit_path.proofs.Lawful.{session-law, answers-law}
-use Rattle.settle.proofs.Kept.{settle-kept}
-use Rattle.chunk_calls.proofs.Lasting.{tells-law}
 use Rattle.store_api.proofs.Happening.{ChangedNothing-others}
 use Rattle.store_api.proofs.Standing.{IsPolite-append}
 use Rattle.commit_path.proofs.Singling.{HasPutAlike-others}
@@ -132,7 +129,7 @@ Keeps-polite ids task number start by (Or p r) journal k = tt
 
 -- what an outcome tells lasts
 outcomes : OutcomeLaw
-outcomes by ids task outcome start journal more others = TellsOutcome-others (record { session = session-law; answers = answers-law; settle = λ by branch d result start journal more others t. settle-kept by branch d start journal more others result t; chunks = tells-law; refs = λ by body outcome start journal more others. RefsTells-others by journal more others body start outcome; collect = λ by line cutoff outcome start journal more others. CollectedTells-others cutoff by start journal more others line outcome; expire = λ by line terms outcome start journal more others. ExpiredTells-more line terms by.number start journal more outcome; check = outcome-lasts }) by start journal more others ids task outcome
+outcomes by ids task outcome start journal more others = TellsOutcome-others (record { refs = λ by body outcome start journal more others. RefsTells-others by journal more others body start outcome; collect = λ by line cutoff outcome start journal more others. CollectedTells-others cutoff by start journal more others line outcome; expire = λ by line terms outcome start journal more others. ExpiredTells-more line terms by.number start journal more outcome; check = outcome-lasts }) by start journal more others ids task outcome
 
 next_same : (k t : ℕ) → t + 1 ≡ k + 1 → k ≡ t
 next_same k t e = omega (arith, e)

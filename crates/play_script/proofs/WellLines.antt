@@ -30,7 +30,7 @@ use Rattle.script_values.specs.Words.{Text, cut_of, next, one, two, three, four,
 use Rattle.script_values.specs.Parts.{◌&◌, made}
 use Rattle.script_values.specs.Values.{◌reads◌, path_of, text_of, ref_name_of, id_of, tries_in, policy_in, numbers_of, fill_of, count_of, index_of, bytes_of, byte_of, corner_of, cells_of, cutoff_of, flags_of}
 use Rattle.script_values.specs.Arrays.{array_line_text}
-use Rattle.script_calls.specs.Forms.{taken, lone_path, path_and_text, array_of, path_and_array, path_and_index, chunk_and_bytes, chunk_and_byte, cell_box, box_of, lone_box, box_and_cells, lone_key, key_and_bytes, node_edit_of, chunk_edit_of, key_edit_of, edit_of, read_of, commit_of, name_and_value, prop_of, at_of, lone_at, lone_name, name_and_at, ref_of, form, no_form, form_of, write_of, refs_of, collect_of, expire_of, check_of, head_of}
+use Rattle.script_calls.specs.Forms.{taken, lone_path, path_and_text, array_of, path_and_array, path_and_index, chunk_and_bytes, chunk_and_byte, cell_box, box_of, lone_box, box_and_cells, lone_key, key_and_bytes, node_edit_of, chunk_edit_of, key_edit_of, edit_of, read_of, commit_of, name_and_value, prop_of, lease_of, at_of, lone_at, lone_name, name_and_at, ref_of, form, no_form, form_of, write_of, refs_of, collect_of, expire_of, check_of, head_of}
 use Rattle.play_script.specs.Places.{class_of, client_from, turn, turn_of}
 use Rattle.play_script.specs.Well.{IsWellPath, IsWellText, IsWellIndex, IsWellBox, AreWellCells, IsWellEdit, IsWellRead, IsWellAt, IsWellRef, IsWellCall, IsWellAccess, IsWellHead, IsWellTurn}
 use Rattle.script_values.proofs.Inversions.{made_ok, both_ok, path_ok, text_ok, ref_name_ok, numbers_ok, fill_ok, count_ok, index_ok, byte_ok, bytes_ok, tries_ok}
@@ -215,6 +215,14 @@ prop_ok : (first : Text) (rest : Option Text) → IsRight IsWellProp (prop_of fi
 unfolding prop_of
 prop_ok first rest = form_right IsWellProp (first reads codes "prop") _ _ (name_and_value_ok rest) tt
 
+-- a line without words of its own
+abbrev IsAny : Unit {0} → Type 0
+IsAny none = Unit {0}
+
+lease_ok : (first : Text) (rest : Option Text) → IsRight IsAny (lease_of first rest)
+unfolding lease_of
+lease_ok first rest = form_right IsAny (first reads codes "lease") _ _ (λ x h. tt) tt
+
 -- what names a snapshot, where it is read
 abbrev AreWellAts : Result At ScriptKind → Type 0
 AreWellAts r = (v : At) → r ≡ Ok v → IsWellAt v
@@ -276,7 +284,8 @@ form_ok first rest =
     (class_ok IsWellRead c.Read call.Read (read_of first rest) _ (λ x w. (w, refl)) (read_ok first rest)
     (class_ok IsWellText c.Commit call.Commit (commit_of first rest) _ (λ x w. (w, refl)) (commit_ok first rest)
     (class_ok IsWellRef c.Ref call.Ref (ref_of first rest) _ (λ x w. (w, refl)) (ref_ok first rest)
-    (class_ok IsWellProp c.Edit (λ v. call.Prop v.0 v.1) (prop_of first rest) no_form (λ x w. (w, refl)) (prop_ok first rest) (λ v h. absurd (cc))))))
+    (class_ok IsWellProp c.Edit (λ v. call.Prop v.0 v.1) (prop_of first rest) _ (λ x w. (w, refl)) (prop_ok first rest)
+    (class_ok IsAny c.Read (λ _. call.Lease) (lease_of first rest) no_form (λ x w. (tt, refl)) (lease_ok first rest) (λ v h. absurd (cc)))))))
 
 -- what a task opens, where it is read
 written : (branch : Text) (tries : ℕ) (policy : Policy) (opened : Access) → access.Write branch tries policy ≡ opened → IsRefName branch → tries ≤ 9 → IsWellAccess opened

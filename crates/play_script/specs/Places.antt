@@ -40,6 +40,7 @@ class_of (call.Read look) = c.Read
 class_of (call.Commit message) = c.Commit
 class_of (call.Ref r) = c.Ref
 class_of (call.Prop name value) = c.Edit
+class_of call.Lease = c.Read
 
 abbrev pub access_takes : Access → Class → Bool
 access_takes (access.Write branch tries policy) c.Ref = false
@@ -61,6 +62,7 @@ is_commit_call (call.Read look) = false
 is_commit_call (call.Commit message) = true
 is_commit_call (call.Ref r) = false
 is_commit_call (call.Prop name value) = false
+is_commit_call call.Lease = false
 
 abbrev pub is_commit : Option Line → Bool
 is_commit None = false

@@ -92,6 +92,7 @@ IsWellCall (call.Read look) = IsWellRead look
 IsWellCall (call.Commit message) = IsWellText message
 IsWellCall (call.Ref r) = IsWellRef r
 IsWellCall (call.Prop name value) = IsWellText name × IsWellText value
+IsWellCall call.Lease = Unit {0}
 
 -- a number of a line, which is at most that of the first byte too many
 abbrev pub IsLineNumber : ℕ → Type 0

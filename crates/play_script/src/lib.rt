@@ -8,7 +8,7 @@
 //!   `make PATH JSON`, `meta PATH JSON`, `drop PATH`, `set PATH INDEX HEX`, `fill PATH INDEX BYTE`, `unset PATH INDEX`,
 //!   `put PATH FROM TO CELLS`, `zset KEY HEX`, `zdel KEY`, `prop PROPERTY VALUE`, and those of a task that reads, then at most one `commit MESSAGE`;
 //!   JSON, VALUE and MESSAGE are the rest of the line and may be empty;
-//! - `task NAME read AT`, a task that reads: lines `list PATH`, `get PATH`, `chunk PATH INDEX`, `cells PATH FROM TO` and `zget KEY`;
+//! - `task NAME read AT`, a task that reads: lines `list PATH`, `get PATH`, `chunk PATH INDEX`, `cells PATH FROM TO`, `zget KEY` and `lease`;
 //! - `task NAME refs`, a task about refs: lines `branch REF AT`, `reset REF AT`, `unbranch REF`, `tag REF AT`, `untag REF` and
 //!   `log AT`, one at least;
 //! - `task NAME collect CUTOFF`, a task that collects, with no line of its own;

@@ -30,35 +30,77 @@ use Rattle.script_calls.specs.declared.calls.Head.{Head}
 use Rattle.script_calls.specs.declared.calls.Head.TheVariants.{Session, Refs, Collect, Expire, Check}
 use Rattle.play_outcome.specs.declared.outcome.Outcome.{Outcome}
 use Rattle.play_tasks.specs.Playing.{asked_by}
-use Rattle.play_tasks.specs.Bases.{ComesOpen, HasAsked, HasBase, IsAskedFor, IsRebasing, MadeAlone, NamesBase, OpensOrHasBase, WasNamed, naming_key, GetsWalked}
+use Rattle.play_tasks.specs.Bases.{ComesOpen, FoundAt, GetsBranch, GetsWalked, HasAsked, HasBase, IsAskedFor, IsRebasing, LeasesBase, MadeAlone, NamesBase, NoneNewer, OpensOrHasBase, WasNamed, naming_key}
 use Rattle.play_tasks.proofs.Within.{Within, WithinOk, Still, Climbs}
 
 -- ---- what a client made alone
-module _ (may : Op → Type 0) where
-  pub alone-none : (client : ℕ) (start : List Event) → MadeAlone may client start start
-  alone-none client start = record { more = []; is = sym (append-nil start); each = Each-none (λ before event. event.client ≡ client → may event.op) start }
+-- from the first journal on, this holds of each own event
+record Own (P : Event → Type 0) (client : ℕ) (start journal : List Event) : Type 0 where
+  pub more : List Event
+  pub is : journal ≡ start ++ more
+  pub each : Each (λ before event. event.client ≡ client → P event) start more
 
-  pub alone-makes : (by : Caller) (op : Op) (reply : Reply) (from old new : List Event) → Makes by op reply old new → may op → MadeAlone may by.number from old → MadeAlone may by.number from new
-  alone-makes by op reply from old new m allowed a =
-      let P : List Event → Event → Type 0 = λ before event. event.client ≡ by.number → may event.op in
+module _ (P : Event → Type 0) where
+  own-none : (client : ℕ) (start : List Event) → Own P client start start
+  own-none client start = record { more = []; is = sym (append-nil start); each = Each-none (λ before event. event.client ≡ client → P event) start }
+
+  own-makes : (by : Caller) (op : Op) (reply : Reply) (from old new : List Event) → (m : Makes by op reply old new) → P (own_event by op reply m.time) → Own P by.number from old → Own P by.number from new
+  own-makes by op reply from old new m holds a =
+      let E : List Event → Event → Type 0 = λ before event. event.client ≡ by.number → P event in
       let event : Event = own_event by op reply m.time in
-      let others : Each P old m.waits.between = Each-weaker (IsOther by) P (λ h e o k. absurd (o.other k)) old m.waits.between m.waits.others in
-      let own : Each P (old ++ m.waits.between) (event ∷ []) = Each-one P (old ++ m.waits.between) event (λ k. allowed) in
-      let both : Each P old (m.waits.between ++ event ∷ []) = Each-append P old m.waits.between (event ∷ []) others own in
+      let others : Each E old m.waits.between = Each-weaker (IsOther by) E (λ h e o k. absurd (o.other k)) old m.waits.between m.waits.others in
+      let own : Each E (old ++ m.waits.between) (event ∷ []) = Each-one E (old ++ m.waits.between) event (λ k. holds) in
+      let both : Each E old (m.waits.between ++ event ∷ []) = Each-append E old m.waits.between (event ∷ []) others own in
       record {
         more = a.more ++ (m.waits.between ++ event ∷ []);
         is = m.is ∙ ap (λ (h : List Event). h ++ event ∷ []) m.waits.is ∙ append_assoc old m.waits.between (event ∷ []) ∙ ap (λ (h : List Event). h ++ (m.waits.between ++ event ∷ [])) a.is ∙ append_assoc from a.more (m.waits.between ++ event ∷ []);
-        each = Each-append P from a.more (m.waits.between ++ event ∷ []) a.each (subst (λ (h : List Event). Each P h (m.waits.between ++ event ∷ [])) a.is both);
+        each = Each-append E from a.more (m.waits.between ++ event ∷ []) a.each (subst (λ (h : List Event). Each E h (m.waits.between ++ event ∷ [])) a.is both);
       }
 
-  pub alone-others : (by : Caller) (from journal more : List Event) → Each (IsOther by) journal more → MadeAlone may by.number from journal → MadeAlone may by.number from (journal ++ more)
-  alone-others by from journal more others a =
-      let P : List Event → Event → Type 0 = λ before event. event.client ≡ by.number → may event.op in
+  own-others : (by : Caller) (from journal more : List Event) → Each (IsOther by) journal more → Own P by.number from journal → Own P by.number from (journal ++ more)
+  own-others by from journal more others a =
+      let E : List Event → Event → Type 0 = λ before event. event.client ≡ by.number → P event in
       record {
         more = a.more ++ more;
         is = ap (λ (h : List Event). h ++ more) a.is ∙ append_assoc from a.more more;
-        each = Each-append P from a.more more a.each (subst (λ (h : List Event). Each P h more) a.is (Each-weaker (IsOther by) P (λ h e o k. absurd (o.other k)) journal more others));
+        each = Each-append E from a.more more a.each (subst (λ (h : List Event). Each E h more) a.is (Each-weaker (IsOther by) E (λ h e o k. absurd (o.other k)) journal more others));
       }
+
+-- operations
+module _ (may : Op → Type 0) where
+  abbrev May : Event → Type 0
+  May event = may event.op
+
+  pub alone-none : (client : ℕ) (start : List Event) → MadeAlone may client start start
+  alone-none client start = let o = own-none May client start in record { more = o.more; is = o.is; each = o.each }
+
+  pub alone-makes : (by : Caller) (op : Op) (reply : Reply) (from old new : List Event) → Makes by op reply old new → may op → MadeAlone may by.number from old → MadeAlone may by.number from new
+  alone-makes by op reply from old new m allowed a =
+      let o = own-makes May by op reply from old new m allowed (record { more = a.more; is = a.is; each = a.each }) in
+      record { more = o.more; is = o.is; each = o.each }
+
+  pub alone-others : (by : Caller) (from journal more : List Event) → Each (IsOther by) journal more → MadeAlone may by.number from journal → MadeAlone may by.number from (journal ++ more)
+  alone-others by from journal more others a =
+      let o = own-others May by from journal more others (record { more = a.more; is = a.is; each = a.each }) in
+      record { more = o.more; is = o.is; each = o.each }
+
+-- gets of a branch, which found it at this version
+module _ (version : ℕ) where
+  abbrev Finds : Event → Type 0
+  Finds event = GetsBranch event.op → FoundAt version event.reply
+
+  newer-none : (client : ℕ) (start : List Event) → NoneNewer version client start start
+  newer-none client start = let o = own-none Finds client start in record { more = o.more; is = o.is; each = o.each }
+
+  newer-makes : (by : Caller) (op : Op) (reply : Reply) (from old new : List Event) → Makes by op reply old new → (GetsBranch op → FoundAt version reply) → NoneNewer version by.number from old → NoneNewer version by.number from new
+  newer-makes by op reply from old new m finds a =
+      let o = own-makes Finds by op reply from old new m finds (record { more = a.more; is = a.is; each = a.each }) in
+      record { more = o.more; is = o.is; each = o.each }
+
+  newer-others : (by : Caller) (from journal more : List Event) → Each (IsOther by) journal more → NoneNewer version by.number from journal → NoneNewer version by.number from (journal ++ more)
+  newer-others by from journal more others a =
+      let o = own-others Finds by from journal more others (record { more = a.more; is = a.is; each = a.each }) in
+      record { more = o.more; is = o.is; each = o.each }
 
 -- ---- own events, where the journal went on
 abbrev own-on : (client : ℕ) (op : Op) (reply : Reply) (start old new more : List Event) → new ≡ old ++ more → HasOwn client op reply start old → HasOwn client op reply start new
@@ -87,26 +129,27 @@ asked-on client at start old new more goes a = record { reply = a.reply; own = o
 
 -- ---- it stays so, whatever others do
 module _ (by : Caller) (start journal more : List Event) (others : Each (IsOther by) journal more) where
-  last-others : (since : List Event) → MadeAlone Still by.number since journal ⊎ IsRebasing by.number since journal → MadeAlone Still by.number since (journal ++ more) ⊎ IsRebasing by.number since (journal ++ more)
-  last-others since (inl none) = inl (alone-others Still by since journal more others none)
-  last-others since (inr r) = inr (record { lost = r.lost; none = r.none; walks = alone-others GetsWalked by r.lost journal more others r.walks })
+  last-others : (version : ℕ) (since : List Event) → NoneNewer version by.number since journal ⊎ IsRebasing version by.number since journal → NoneNewer version by.number since (journal ++ more) ⊎ IsRebasing version by.number since (journal ++ more)
+  last-others version since (inl none) = inl (newer-others version by since journal more others none)
+  last-others version since (inr r) = inr (record { lost = r.lost; none = r.none; walks = alone-others GetsWalked by r.lost journal more others r.walks })
 
-  base-others : (a : Asked) → HasBase by.number a start journal → HasBase by.number a start (journal ++ more)
+  abbrev base-others : (a : Asked) → HasBase by.number a start journal → HasBase by.number a start (journal ++ more)
   base-others a b = record {
     asked = asked-on by.number a.at start journal (journal ++ more) more refl b.asked;
     base = b.base;
     origin = b.origin;
     of_asked = b.of_asked;
     named = named-on by.number b.origin b.base start journal (journal ++ more) more refl b.named;
-    last = last-others (b.named.got.own.before ++ b.named.got.own.event ∷ []) b.last;
+    last = last-others b.named.version (b.named.got.own.before ++ b.named.got.own.event ∷ []) b.last;
   }
 
   opens-others : (a : Asked) (op : Op) → OpensOrHasBase by.number a start journal op → OpensOrHasBase by.number a start (journal ++ more) op
   opens-others a op (inl first) = inl (alone-others (λ o. ⊥) by start journal more others first.0, first.1)
-  opens-others a op (inr b) = inr (base-others a b)
+  opens-others a op (inr b) = inr (base-others a b.0, b.1)
 
   pub open-others : (head : Head) (ids : AnyIds) (op : Op) → ComesOpen head ids by.number start journal op → ComesOpen head ids by.number start (journal ++ more) op
-  open-others (Session access) ids op o = opens-others (asked_by access ids) op o
+  open-others (Session access) ids op (inl o) = inl (opens-others (asked_by access ids) op o)
+  open-others (Session access) ids op (inr r) = inr r
   open-others Refs ids op o = o
   open-others (Collect cutoff) ids op o = o
   open-others (Expire cutoff drop_branches drop_tags) ids op o = o
@@ -141,29 +184,30 @@ own-now by start op reply old new m g = record {
 
 -- ---- a session's base
 module _ (by : Caller) (a : Asked) (start : List Event) where
-  -- the client got no branch since the base was named
+  -- the client found the branch at no other version since the base was named
   pub record Settled (base : Id12) (origin : Origin) (journal : List Event) : Type 0 where
     pub goes : GoesOn start journal
     pub asked : HasAsked by.number a.at start journal
     pub of_asked : IsAskedFor a.at a.writes origin base
     pub named : WasNamed by.number origin base start journal
-    pub none : MadeAlone Still by.number (named.got.own.before ++ named.got.own.event ∷ []) journal
+    pub none : NoneNewer named.version by.number (named.got.own.before ++ named.got.own.event ∷ []) journal
 
   -- ... until it was to be rebased
   pub record Rebasing (base : Id12) (origin : Origin) (journal : List Event) : Type 0 where
     pub asked : HasAsked by.number a.at start journal
     pub of_asked : IsAskedFor a.at a.writes origin base
     pub named : WasNamed by.number origin base start journal
-    pub rebases : IsRebasing by.number (named.got.own.before ++ named.got.own.event ∷ []) journal
+    pub rebases : IsRebasing named.version by.number (named.got.own.before ++ named.got.own.event ∷ []) journal
 
-  pub settled-has : (base : Id12) (origin : Origin) (journal : List Event) → Settled base origin journal → HasBase by.number a start journal
+  abbrev pub settled-has : (base : Id12) (origin : Origin) (journal : List Event) → Settled base origin journal → HasBase by.number a start journal
   settled-has base origin journal s = record { asked = s.asked; base = base; origin = origin; of_asked = s.of_asked; named = s.named; last = inl s.none }
 
-  rebasing-has : (base : Id12) (origin : Origin) (journal : List Event) → Rebasing base origin journal → HasBase by.number a start journal
+  abbrev rebasing-has : (base : Id12) (origin : Origin) (journal : List Event) → Rebasing base origin journal → HasBase by.number a start journal
   rebasing-has base origin journal s = record { asked = s.asked; base = base; origin = origin; of_asked = s.of_asked; named = s.named; last = inr s.rebases }
 
-  pub settled-makes : (base : Id12) (origin : Origin) (op : Op) (reply : Reply) (old new : List Event) → Makes by op reply old new → Still op → Settled base origin old → Settled base origin new
-  settled-makes base origin op reply old new m still s =
+  -- an own operation, which found no branch at another version
+  pub settled-finds : (base : Id12) (origin : Origin) (op : Op) (reply : Reply) (old new : List Event) → Makes by op reply old new → (s : Settled base origin old) → (GetsBranch op → FoundAt s.named.version reply) → Settled base origin new
+  settled-finds base origin op reply old new m s finds =
       let added : List Event = m.waits.between ++ own_event by op reply m.time ∷ [] in
       let on = made-on by op reply old new m in
       record {
@@ -171,8 +215,11 @@ module _ (by : Caller) (a : Asked) (start : List Event) where
         asked = asked-on by.number a.at start old new added on s.asked;
         of_asked = s.of_asked;
         named = named-on by.number origin base start old new added on s.named;
-        none = alone-makes Still by op reply (s.named.got.own.before ++ s.named.got.own.event ∷ []) old new m still s.none;
+        none = newer-makes s.named.version by op reply (s.named.got.own.before ++ s.named.got.own.event ∷ []) old new m finds s.none;
       }
+
+  pub settled-makes : (base : Id12) (origin : Origin) (op : Op) (reply : Reply) (old new : List Event) → Makes by op reply old new → ¬ GetsBranch op → Settled base origin old → Settled base origin new
+  settled-makes base origin op reply old new m still s = settled-finds base origin op reply old new m s (λ gets. absurd (still gets))
 
   pub rebasing-makes : (base : Id12) (origin : Origin) (op : Op) (reply : Reply) (old new : List Event) → Makes by op reply old new → GetsWalked op → Rebasing base origin old → Rebasing base origin new
   rebasing-makes base origin op reply old new m walks s =
@@ -204,7 +251,7 @@ module _ (by : Caller) (a : Asked) (start : List Event) where
         asked = asked;
         of_asked = of_asked;
         named = record { bytes = bytes; version = version.0; got = record { now = now; own = own-now by start (Get (naming_key origin base)) (Is_got (Found bytes version now)) old new m' goes }; names = names };
-        none = subst (λ (h : List Event). MadeAlone Still by.number h new) m'.is (alone-none Still by.number new);
+        none = subst (λ (h : List Event). NoneNewer version.0 by.number h new) m'.is (newer-none version.0 by.number new);
       }
 
   -- ---- programs that get no branch
@@ -214,24 +261,28 @@ module _ (by : Caller) (a : Asked) (start : List Event) where
   pub still-keeps : {A : Type 0} (Q : A → Type 0) (base : Id12) (origin : Origin) (p : Prog A) (journal : List Event) → Within Still Q p → Settled base origin journal → Keeps Opens by p journal
   unfolding Within Keeps
   still-keeps Q base origin (Done x) journal w s = tt
-  still-keeps Q base origin (Ask op next) journal w s = (inr (settled-has base origin journal s), λ reply new m. still-keeps Q base origin (next reply) new (w.1 reply) (settled-makes base origin op reply journal new m w.0 s))
+  still-keeps Q base origin (Ask op next) journal w s = (inr (settled-has base origin journal s, w.0.1 base), λ reply new m. still-keeps Q base origin (next reply) new (w.1 reply) (settled-makes base origin op reply journal new m w.0.0 s))
 
   pub still-leads : {A : Type 0} (Q : A → Type 0) (base : Id12) (origin : Origin) (p : Prog A) (journal : List Event) → Within Still Q p → Settled base origin journal → Leads (λ x h. Q x × Settled base origin h) by p journal
   unfolding Within Leads
   still-leads Q base origin (Done x) journal w s = (w, s)
-  still-leads Q base origin (Ask op next) journal w s = λ reply new m. still-leads Q base origin (next reply) new (w.1 reply) (settled-makes base origin op reply journal new m w.0 s)
+  still-leads Q base origin (Ask op next) journal w s = λ reply new m. still-leads Q base origin (next reply) new (w.1 reply) (settled-makes base origin op reply journal new m w.0.0 s)
 
   -- ---- programs that get branches, snapshots and logs alone
+  walked-leases : (base : Id12) (op : Op) → GetsWalked op → LeasesBase base op
+  walked-leases base (Get key) walks = tt
+  walked-leases base _ walks = absurd walks
+
   walk-keeps : {A : Type 0} (Q : A → Type 0) (base : Id12) (origin : Origin) (p : Prog A) (journal : List Event) → Within GetsWalked Q p → Rebasing base origin journal → Keeps Opens by p journal
   unfolding Within Keeps
   walk-keeps Q base origin (Done x) journal w s = tt
-  walk-keeps Q base origin (Ask op next) journal w s = (inr (rebasing-has base origin journal s), λ reply new m. walk-keeps Q base origin (next reply) new (w.1 reply) (rebasing-makes base origin op reply journal new m w.0 s))
+  walk-keeps Q base origin (Ask op next) journal w s = (inr (rebasing-has base origin journal s, walked-leases base op w.0), λ reply new m. walk-keeps Q base origin (next reply) new (w.1 reply) (rebasing-makes base origin op reply journal new m w.0 s))
 
   -- ---- the rest of a rebase
   pub climb-keeps : {A : Type 0} (Q : A → Type 0) (base : Id12) (origin : Origin) (p : Prog A) (journal : List Event) → Within Climbs Q p → Rebasing base origin journal → Keeps Opens by p journal
   unfolding Within Keeps
   climb-keeps Q base origin (Done x) journal w s = tt
-  climb-keeps Q base origin (Ask op next) journal w s = (inr (rebasing-has base origin journal s), λ reply new m. climb-keeps Q base origin (next reply) new (w.1 reply) (rebasing-makes base origin op reply journal new m w.0.0 s))
+  climb-keeps Q base origin (Ask op next) journal w s = (inr (rebasing-has base origin journal s, walked-leases base op w.0.0), λ reply new m. climb-keeps Q base origin (next reply) new (w.1 reply) (rebasing-makes base origin op reply journal new m w.0.0 s))
 
   pub climb-leads : {A : Type 0} (Q : A → Type 0) (base : Id12) (origin : Origin) (p : Prog A) (journal : List Event) → Within Climbs Q p → Settled base origin journal → Leads (λ x h. Q x × Settled base origin h) by p journal
   unfolding Within Leads

@@ -1,6 +1,6 @@
 -- Each operation of a task that opens a session is the first one, or comes where the session has a base.
-use Rattle.std.proofs.Common.{◌≡◌, inl, inr, refl, sym, ◌∙◌, ap, subst, cond, Bool, true, false, ℕ, zero, suc, List, [], ◌∷◌, ◌++◌, append-nil, Option, None, Some, Result, Ok, Err}
-use Rattle.std.specs.Prelude.{IfOk}
+use Rattle.std.proofs.Common.{◌≡◌, inl, inr, refl, sym, ◌∙◌, ap, subst, cond, Bool, true, false, eqb-true, ℕ, zero, suc, List, [], ◌∷◌, ◌++◌, append-nil, Option, None, Some, Result, Ok, Err}
+use Rattle.std.specs.Prelude.{IfOk, ◌==◌}
 use Rattle.std.specs.Result.{result_ok}
 use Rattle.std.specs.FinMap.{get}
 use Rattle.ice_ids.specs.declared.Id8.{Id8}
@@ -20,8 +20,12 @@ use Rattle.snapshot_file.specs.declared.snapshot.SnapshotFile.{SnapshotFile}
 use Rattle.repo_objects.specs.declared.bad_objects.Bad.{Bad}
 use Rattle.repo_objects.specs.Readings.{read_ref, read_snapshot, ref_of}
 use Rattle.conflicts.specs.declared.solving.Policy.{Policy}
-use Rattle.object_store.specs.declared.keys.Key.TheVariants.{Snapshot, Branch, Tag}
-use Rattle.object_store.specs.declared.events.Op.TheVariants.{Get}
+use Rattle.ref_file.specs.Refs.{ref_bytes}
+use Rattle.object_store.specs.declared.keys.Key.TheVariants.{Snapshot, Branch, Tag, Tombstone, Lease as Lease_key}
+use Rattle.object_store.specs.declared.keys.Why.TheVariants.{Lease as For_lease}
+use Rattle.object_store.specs.declared.events.Op.{Op}
+use Rattle.object_store.specs.declared.events.Op.TheVariants.{Get, PutNew}
+use Rattle.object_store.specs.Machine.{version_at}
 use Rattle.object_store.specs.declared.events.Got.TheVariants.{Found, Absent}
 use Rattle.object_store.specs.declared.events.Reply.{Reply}
 use Rattle.object_store.specs.declared.events.Reply.TheVariants.{Got as Is_got, New as Is_new, Over as Is_over, Gone as Is_gone, GoneAt as Is_gone_at, Listed as Is_listed, Failed}
@@ -29,11 +33,11 @@ use Rattle.object_store.specs.declared.events.Event.{Event}
 use Rattle.object_store.specs.declared.events.Version.{Version}
 use Rattle.object_store.proofs.Journals.{Each-weaker}
 use Rattle.store_api.specs.declared.machines.Refusal.{Refusal}
-use Rattle.store_api.specs.declared.machines.Refusal.TheVariants.{NoMemory, LostRace, ReadOnly}
+use Rattle.store_api.specs.declared.machines.Refusal.TheVariants.{NoMemory, LostRace, Moved, ReadOnly}
 use Rattle.store_api.specs.Callers.{Caller, IsOther, Makes}
 use Rattle.store_api.specs.Program.{Done, bind, Keeps, Leads}
 use Rattle.store_api.specs.Running.{Program, ◌>>=◌, on_answer}
-use Rattle.store_api.specs.Plays.{Play, PlayKeeps, call}
+use Rattle.store_api.specs.Plays.{Play, PlayKeeps, PlayLeads, call}
 use Rattle.store_api.proofs.Programs.{Leads-weaker}
 use Rattle.repo_read.specs.declared.answers.Resolved.{Resolved}
 use Rattle.repo_read.specs.declared.resolving.At.{At}
@@ -50,7 +54,7 @@ use Rattle.session.specs.Sessions.{SessionState, branch_of, nodes_seen, origin_a
 use Rattle.session.specs.Opening.{Asked, of_branch, origin_for, begun, base_program, open_program}
 use Rattle.array_region.specs.Reading.{region_program}
 use Rattle.array_region.specs.Writing.{region_set_program}
-use Rattle.session.specs.Chunks.{set_program, get_program, chunk_unset}
+use Rattle.session.specs.Chunks.{after_draw, set_program, get_program, chunk_unset}
 use Rattle.session.specs.Editing.{node_fault, added, meta_set, node_dropped, drawn_node, unless_unfit, with_prop, prop_added}
 use Rattle.zarr_keys.specs.Keys.{meta_put, session_of}
 use Rattle.commit_path.specs.declared.commit.Tried.{Tried}
@@ -71,17 +75,24 @@ use Rattle.script_calls.specs.declared.calls.ReadCall.TheVariants as read
 use Rattle.play_outcome.specs.declared.outcome.Outcome.{Outcome}
 use Rattle.play_outcome.specs.declared.outcome.Shown.{Shown}
 use Rattle.play_outcome.specs.Playing.{refused}
-use Rattle.play_tasks.specs.Lines.{Deed, Goes, Sets, Reads, Puts, Gathers, Commits, deed, edited, edit_deed, read_deed, key_set_deed, key_get_deed, read_by, silent, still}
+use Rattle.play_tasks.specs.Lines.{Deed, Goes, Sets, Reads, Puts, Gathers, Leases, Commits, deed, edited, edit_deed, read_deed, key_set_deed, key_get_deed, read_by, silent, still}
 use Rattle.settle.specs.declared.settle.Settled.{Settled as TheSettled}
 use Rattle.settle.specs.Settling.{settle_program}
-use Rattle.play_tasks.specs.Playing.{after_settling, doubt_of, doubt_play, after_commit, after_line, after_open, after_rebase, asked_by, commit_play, play_deed, play_lines, policy_of, session_play, shown_by, tries_of}
+use Rattle.leases.specs.declared.lease.Leased.{Leased}
+use Rattle.leases.specs.declared.witness.Witness.{Witness}
+use Rattle.leases.specs.declared.witness.Witness.TheVariants as W
+use Rattle.leases.specs.Plays.{confirmed, has_none, lease_play, stands_at, witness_key, witness_of}
+use Rattle.leases.specs.Starting.{lease_of}
+use Rattle.leases.proofs.Following.{PlayKeeps-followed}
+use Rattle.play_tasks.specs.Playing.{after_confirm, after_lease, lease_by, placed_shown, after_settling, doubt_of, doubt_play, after_commit, after_line, after_open, after_rebase, asked_by, commit_play, play_deed, play_lines, policy_of, session_play, shown_by, tries_of}
 use Rattle.play_tasks.specs.Bases.{HasAsked, IsAskedFor, NamesBase, naming_key}
+use Rattle.play_tasks.proofs.LeaseWays.{lease-cases, put-cases}
 use Rattle.play_tasks.proofs.Ways.{Way, adds, texts, drops, unsets, no_key, stays, put-way, edited-way}
 use Rattle.play_tasks.proofs.Ready.{by_writes, by_text, by_edit}
 use Rattle.play_tasks.proofs.Doubting.{which, no-doubt, settle-within}
 use Rattle.play_tasks.proofs.Boxing.{AnyNumbers, gather-within, put-box-within}
 use Rattle.play_tasks.proofs.Within.{Within, WithinOk, Still, IsSame, IsOnHead, still-gets, still-puts, set-within, get-within, commit-within, ref-within}
-use Rattle.play_tasks.proofs.Based.{GoesOn, Opens, Settled, Rebasing, alone-none, climb-keeps, climb-leads, opens-call, own-now, rebase-begins, rebasing-makes, settled-has, settled-now, still-call, still-goes, still-keeps, still-leads, walk-call}
+use Rattle.play_tasks.proofs.Based.{GoesOn, Opens, Settled, Rebasing, alone-none, climb-keeps, climb-leads, opens-call, own-now, rebase-begins, rebasing-makes, settled-finds, settled-has, settled-makes, settled-now, still-call, still-goes, still-keeps, still-leads, walk-call}
 
 -- ---- lines leave a session's base
 abbrev Leaves : SessionState → Result SessionState Refusal → Type 0
@@ -138,6 +149,7 @@ GoesSame s (Sets path index bytes) = Unit {0}
 GoesSame s (Reads path index show) = Unit {0}
 GoesSame s (Puts path from to numbers) = Unit {0}
 GoesSame s (Gathers path from to show) = Unit {0}
+GoesSame s (Leases show) = Unit {0}
 GoesSame s (Commits message) = Unit {0}
 
 silent-same : (s : SessionState) (r : Result SessionState Refusal) → Leaves s r → IfOk (silent r) (λ went. IsSame s went.1)
@@ -177,6 +189,7 @@ deed-same line s (call.Edit change) = edit-same s change
 deed-same line s (call.Read look) = read-same line s look
 deed-same line s (call.Commit message) = tt
 deed-same line s (call.Ref own) = same s
+deed-same line s call.Lease = tt
 deed-same line s (call.Prop name value) = silent-same s (prop_added s name value) (prop-leaves s name value)
 
 -- ---- what was asked for
@@ -201,6 +214,13 @@ branch-key false tip base = refl
 branch-names : (w : Bool) (branch bytes : List ℕ) (version : Version) (base : Id12) → ref_of bytes ≡ Some base → NamesBase (of_branch w (record { branch = branch; version = version })) base bytes version.0
 branch-names true branch bytes version base e = (e, refl)
 branch-names false branch bytes version base e = (e, refl)
+
+-- the version at which a branch that is to confirm a lease named the base
+witness-version : (o : Origin) (tip : Tip) → witness_of o ≡ Some (W.Branch tip) → (base : Id12) (bytes : List ℕ) (version : ℕ) → NamesBase o base bytes version → tip.version ≡ version_at version
+witness-version (Writes own) tip e base bytes version names = let is : own ≡ tip = cc in subst (λ (t : Tip). t.version ≡ version_at version) is names.1
+witness-version (ReadsBranch own) tip e base bytes version names = let is : own ≡ tip = cc in subst (λ (t : Tip). t.version ≡ version_at version) is names.1
+witness-version (ReadsTag tag) tip e base bytes version names = absurd (cc)
+witness-version ReadsId tip e base bytes version names = absurd (cc)
 
 module _ (by : Caller) (a : Asked) (start : List Event) where
   abbrev Base : SessionState → List Event → Type 0
@@ -262,7 +282,7 @@ module _ (by : Caller) (a : Asked) (start : List Event) where
 
     program-goes : (h : List Event) → Base s h → Goes_on (resolve_program tip.branch >>= after_ref policy s) h
     unfolding Keeps Leads
-    program-goes h x = ((inr (settled-has by a start s.base s.origin h x), λ reply new m. (ref-goes h x reply new m).0), λ reply new m. (ref-goes h x reply new m).1)
+    program-goes h x = ((inr (settled-has by a start s.base s.origin h x, tt), λ reply new m. (ref-goes h x reply new m).0), λ reply new m. (ref-goes h x reply new m).1)
 
   rebased-opens : (line : ℕ) (shown : List Shown) (again : SessionState → Play Outcome) → ((u : SessionState) (h : List Event) → Base u h → OpensAll (again u) h) → (x : Rebased) (h : List Event) → OnHead x h → OpensAll (after_rebase line shown again (Ok x)) h
   unfolding PlayKeeps
@@ -324,11 +344,67 @@ module _ (by : Caller) (a : Asked) (start : List Event) where
       once-opens line shown s (λ old there next. call (rebase_program policy (record s { ids = next })) (after_rebase line shown (commit_play tries policy line shown message))) message h x
       (λ old there next j y. rebase-opens policy line shown (commit_play tries policy line shown message) (λ u k z. commit-opens tries policy line shown message u k z) (record s { ids = next }) j (settled-same s (record s { ids = next }) j (record { base = refl; origin = refl }) y))
 
+  -- ---- a lease
+  -- what it came to, and the session has its base still, where it was confirmed
+  abbrev Confirms : SessionState → Result (Unit {0}) Refusal → List Event → Type 0
+  Confirms s r h = IfOk r (λ done. Base s h)
+
+  abbrev Behind : SessionState → Leased → List Event → Type 0
+  Behind s l h = Confirms s l.result h
+
+  module _ (s : SessionState) (old : List Event) (x : Base s old) where
+    at-version : (tip : Tip) → witness_of s.origin ≡ Some (W.Branch tip) → (bytes : List ℕ) (version : Version) (now : ℕ) (new : List Event) → Makes by (Get (Branch tip.branch)) (Is_got (Found bytes version now)) old new
+        → (same : Bool) → (version.0 == tip.version.0) ≡ same → Confirms s (cond same (Ok tt) (Err (Moved (Some version)))) new
+    at-version tip is bytes version now new m false e = tt
+    at-version tip is bytes version now new m true e =
+        settled-finds by a start s.base s.origin (Get (Branch tip.branch)) (Is_got (Found bytes version now)) old new m x
+        (λ gets. eqb-true version.0 tip.version.0 e ∙ ap (λ (v : Version). v.0) (witness-version s.origin tip is s.base x.named.bytes x.named.version x.named.names))
+
+    by-witness : (w : Witness) → witness_of s.origin ≡ Some w → (reply : Reply) (new : List Event) → Makes by (Get (witness_key w)) reply old new → Confirms s (confirmed w reply) new
+    by-witness (W.Branch tip) is reply new m =
+        got-cases by old new (λ r. Confirms s (stands_at tip.version r) new) (Branch tip.branch) (λ bytes version now n. at-version tip is bytes version now new n (version.0 == tip.version.0) refl) (λ now n. tt) (λ done n. tt) reply m
+    by-witness (W.Tag tag) is reply new m =
+        got-cases by old new (λ r. Confirms s (has_none r) new) (Tombstone tag) (λ bytes version now n. tt) (λ now n. settled-makes by a start s.base s.origin (Get (Tombstone tag)) (Is_got (Absent now)) old new n (λ g. cc) x) (λ done n. tt) reply m
+
+  module _ (s : SessionState) (id : Id12) (w : Witness) (is : witness_of s.origin ≡ Some w) where
+    abbrev Put : Op
+    Put = PutNew (Lease_key id) (ref_bytes s.base) For_lease
+
+    put-settled : (h : List Event) → Base s h → (reply : Reply) (new : List Event) → Makes by Put reply h new → Base s new
+    put-settled h x reply new m = settled-makes by a start s.base s.origin Put reply h new m (λ g. g) x
+
+    lease-keeps : (h : List Event) → Base s h → PlayKeeps (Opens by a start) by (lease_play id s.base w) h
+    unfolding PlayKeeps
+    lease-keeps h x = (
+      inr (settled-has by a start s.base s.origin h x, refl),
+      tt,
+      λ reply new m. put-cases (λ p. PlayKeeps (Opens by a start) by p new) id w (inr (settled-has by a start s.base s.origin new (put-settled h x reply new m), tt), tt, λ r n k. tt) tt tt reply,
+    )
+
+    lease-leads : (h : List Event) → Base s h → PlayLeads (Behind s) by (lease_play id s.base w) h
+    unfolding PlayLeads
+    lease-leads h x = (
+      tt,
+      λ reply new m. put-cases (λ p. PlayLeads (Behind s) by p new) id w (tt, λ r n k. by-witness s new (put-settled h x reply new m) w is r n k) tt tt reply,
+    )
+
   -- ---- lines
   module _ (access : Access) where
     -- whatever follows a line
     abbrev GoOn : (SessionState → List Shown → Play Outcome) → Type 0
     GoOn rest = (t : SessionState) (shown : List Shown) (h : List Event) → Base t h → OpensAll (rest t shown) h
+
+    confirmed-opens : (line : ℕ) (shown : List Shown) (s t : SessionState) (rest : SessionState → List Shown → Play Outcome) (h : List Event) → IsSame s t → GoOn rest → (r : Result (Unit {0}) Refusal) → Confirms s r h → OpensAll (after_confirm line shown t rest r) h
+    confirmed-opens line shown s t rest h i go (Ok done) x = go t shown h (settled-same s t h i x)
+    confirmed-opens line shown s t rest h i go (Err why) x = refused-opens line shown why h
+
+    lease-opens : (line : ℕ) (shown : List Shown) (s : SessionState) (show : Id12 → Shown) (rest : SessionState → List Shown → Play Outcome) (h : List Event) → Base s h → GoOn rest → OpensAll (lease_by show line shown s rest (lease_of s)) h
+    lease-opens line shown s show rest h x go =
+        lease-cases (λ r. OpensAll (lease_by show line shown s rest r) h) s
+        (λ id w drawn is.
+        PlayKeeps-followed (Opens by a start) (Behind s) by (lease_play id s.base w) (after_lease show line shown (after_draw s) rest) h (lease-keeps s id w is h x) (lease-leads s id w is h x)
+        (λ l j c. confirmed-opens line (shown ++ placed_shown show l.placed) s (after_draw s) rest j (record { base = refl; origin = refl }) go l.result c))
+        (λ why e. refused-opens line shown why h)
 
     deed-opens : (line : ℕ) (shown : List Shown) (s : SessionState) (rest : SessionState → List Shown → Play Outcome) (h : List Event) → Base s h → GoOn rest → (d : Deed) → GoesSame s d → OpensAll (play_deed access line shown s d rest) h
     deed-opens line shown s rest h x go (Goes (Ok went)) leaves = go went.1 (shown ++ went.0) h (settled-same s went.1 h leaves x)
@@ -345,6 +421,7 @@ module _ (by : Caller) (a : Asked) (start : List Event) where
     deed-opens line shown s rest h x go (Gathers path from to show) leaves =
         still-call by a start (region_program s path from to) (λ answer. after_line line shown (shown_by s show answer) rest) AnyNumbers s.base s.origin h (gather-within Still still-gets still-puts s path from to) x
         (λ numbers j q y. go s (shown ++ show numbers ∷ []) j y) (λ why j. refused-opens line shown why j)
+    deed-opens line shown s rest h x go (Leases show) leaves = lease-opens line shown s show rest h x go
     deed-opens line shown s rest h x go (Commits message) leaves = commit-opens (tries_of access) (policy_of access) line shown message s h x
 
     lines-open : (ls : List Line) (s : SessionState) (shown : List Shown) (h : List Event) → Base s h → OpensAll (play_lines access ls s shown) h
@@ -399,7 +476,7 @@ module _ (by : Caller) (start : List Event) (at : At) (w : Bool) (ids : AnyIds) 
 
   base-within : (named : Named) → WithinOk Still (Begins named.id (origin_for asks named)) (base_program asks named)
   unfolding Within
-  base-within named = (λ g. cc, λ reply. base-told named (base_told at named.id reply))
+  base-within named = ((λ g. cc, λ base. tt), λ reply. base-told named (base_told at named.id reply))
 
   goes-first : GoesOn start start
   goes-first = record { more = []; is = sym (append-nil start) }
@@ -445,7 +522,7 @@ module _ (by : Caller) (start : List Event) (tag : List ℕ) (w : Bool) (ids : A
 
   tombstone-within : (id : Id12) → WithinOk Still (Begins by start (At.Tag tag) w ids id (ReadsTag tag)) (bind (tombstone_program tag id >>= (λ (x : Id12). Done (Ok (alone x)))) (on_answer (base_program of_tag)))
   unfolding Within
-  tombstone-within id = (λ g. cc, λ reply. alone-within id (tombstone_told id reply) (tombstone-id id reply))
+  tombstone-within id = ((λ g. cc, λ base. tt), λ reply. alone-within id (tombstone_told id reply) (tombstone-id id reply))
 
   tag-named : (bytes : List ℕ) (version : Version) (now : ℕ) (new : List Event) → Makes by (Get (Tag tag)) (Is_got (Found bytes version now)) start new → (r : Result Id12 Bad) → read_ref bytes ≡ r
       → Follows by start (At.Tag tag) w ids (bind (on_answer (λ (x : Id12). tombstone_program tag x >>= (λ (y : Id12). Done (Ok (alone y)))) (at_key (Tag tag) r)) (on_answer (base_program of_tag))) new

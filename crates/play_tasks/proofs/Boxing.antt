@@ -60,6 +60,7 @@ use Rattle.region_calls.specs.Told.{AreCells, RegionTells}
 use Rattle.region_calls.specs.Written.{IsTreeWith, AreSet, WasWritten, RegionSetTells}
 use Rattle.region_calls.proofs.Sets.{reads_of_box, box_cases}
 use Rattle.play_tasks.specs.Telling.{IsOfChunks, TellsOfChunks}
+use Rattle.play_tasks.specs.Bases.{LeasesAlone}
 use Rattle.play_tasks.proofs.Within.{Within, WithinOk, IsSame, bind-within}
 use Rattle.play_tasks.proofs.Singly.{weaker-within}
 
@@ -115,8 +116,8 @@ edit-tells (F.ChunkLength want got) = tt
 edit-tells F.NoMemory = tt
 
 -- ---- programs
--- any operation that gets what is no branch, or puts something new
-module _ (may : Op → Type 0) (gets : (key : Key) → is_branch key ≡ false → may (Get key)) (puts : (key : Key) (bytes : List ℕ) (why : Why) → may (PutNew key bytes why)) where
+-- any operation that gets what is no branch, or puts something new that is no lease
+module _ (may : Op → Type 0) (gets : (key : Key) → is_branch key ≡ false → may (Get key)) (puts : (key : Key) (bytes : List ℕ) (why : Why) → ((base : Id12) → LeasesAlone base key bytes) → may (PutNew key bytes why)) where
   abbrev Goes : {A : Type 0} → (A → Type 0) → Program A → Type 0
   Goes Q p = Within may (By Q) p
 
@@ -227,7 +228,7 @@ module _ (may : Op → Type 0) (gets : (key : Key) → is_branch key ≡ false �
 
   out-goes : (s : SessionState) (path index bytes : List ℕ) (id : Id12) → Goes (IsSame s) (put_object s path index bytes (Some id))
   unfolding Within
-  out-goes s path index bytes id = (puts (Chunk_key id) bytes Set, put-goes s (session_out s path index bytes id) id (record { base = refl; origin = refl }))
+  out-goes s path index bytes id = (puts (Chunk_key id) bytes Set (λ base. tt), put-goes s (session_out s path index bytes id) id (record { base = refl; origin = refl }))
 
   set-goes : (s : SessionState) (path index bytes : List ℕ) → Goes (IsSame s) (set_program s path index bytes)
   set-goes s path index bytes =
@@ -284,8 +285,8 @@ MovesNone op = moves_branch op ≡ false
 pub none-gets : (key : Key) → is_branch key ≡ false → MovesNone (Get key)
 none-gets key e = refl
 
-pub none-puts : (key : Key) (bytes : List ℕ) (why : Why) → MovesNone (PutNew key bytes why)
-none-puts key bytes why = refl
+pub none-puts : (key : Key) (bytes : List ℕ) (why : Why) → ((base : Id12) → LeasesAlone base key bytes) → MovesNone (PutNew key bytes why)
+none-puts key bytes why leases = refl
 
 -- so what stays so wherever memory may be wanting is so of each answer
 pub stays-leads : {A : Type 0} (N : List Event → Type 0) (Q : A → Type 0) (by : Caller) (p : Prog A) (journal : List Event) → N journal → Within MovesNone Q p → Stays N by p journal → Leads (λ a h. N h) by p journal

@@ -26,7 +26,7 @@ use Rattle.settle.specs.declared.settle.Settled.TheVariants.{NotAncestor}
 use Rattle.settle.specs.Settling.{met, unless_met, settle_walk, settle_program}
 use Rattle.play_outcome.specs.declared.outcome.Outcome.{Outcome}
 use Rattle.play_outcome.specs.declared.outcome.Shown.{Shown}
-use Rattle.play_outcome.specs.Ending.{is_failed}
+use Rattle.play_outcome.specs.Ending.{ends_failed}
 use Rattle.play_outcome.specs.Playing.{refused}
 use Rattle.session.specs.Sessions.{SessionState, branch_of}
 use Rattle.play_outcome.specs.declared.outcome.How.TheVariants as how
@@ -86,8 +86,8 @@ walked-gets Q by (Done a) journal w = tt
 walked-gets Q by (Ask_next op next) journal w = (walked-get op w.0, λ reply new m. walked-gets Q by (next reply) new (w.1 reply))
 
 -- ---- a fault is bound to be told of it
-pub doubt-doomed : (shown : List Shown) (id : Id12) (p : Program Settled) → is_ask p ≡ true → dooms is_failed (call p (after_settling shown id)) ≡ true
-doubt-doomed shown id p live = dooms-call is_failed p (after_settling shown id) live
+pub doubt-doomed : (shown : List Shown) (id : Id12) (p : Program Settled) → is_ask p ≡ true → dooms ends_failed (call p (after_settling shown id)) ≡ true
+doubt-doomed shown id p live = dooms-call ends_failed p (after_settling shown id) live
 
 -- ---- it begins
 pub settling-begun : (shown : List Shown) (s : SessionState) (id base : Id12) (branch : List ℕ) (p : Program Settled) → p ≡ settle_program branch (record { snapshot = id; base = base }) → branch ≡ branch_of s → base ≡ s.base → call p (after_settling shown id) ≡ doubt_play shown s id

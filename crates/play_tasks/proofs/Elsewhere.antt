@@ -162,6 +162,7 @@ line-once line (calls_of.Edit edit) shown rest g = g shown
 line-once line (calls_of.Read read) shown rest g = g shown
 line-once line (calls_of.Commit message) shown rest g = g shown
 line-once line (calls_of.Prop name value) shown rest g = g shown
+line-once line calls_of.Lease shown rest g = g shown
 
 pub refs-once : (ls : List Line) (shown : List Shown) → Once (refs_play ls shown)
 unfolding refs_play Once

@@ -32,10 +32,14 @@ use Rattle.play_outcome.specs.declared.outcome.Shown.{Shown}
 use Rattle.play_outcome.specs.declared.outcome.End.{End}
 use Rattle.play_outcome.specs.declared.outcome.End.TheVariants.{Refused}
 use Rattle.play_outcome.specs.declared.outcome.Outcome.{Outcome}
-use Rattle.play_tasks.specs.Lines.{Deed, Goes, Sets, Reads, Puts, Gathers, Commits, deed}
+use Rattle.leases.specs.Laws.{LeaseLaw}
+use Rattle.std.specs.Prelude.{All}
+use Rattle.std.proofs.lemmas.List.Elements.{All-nil, All-append}
+use Rattle.play_tasks.proofs.Released.{IsDrawnLease}
+use Rattle.play_tasks.specs.Lines.{Deed, Goes, Sets, Reads, Puts, Gathers, Leases, Commits, deed}
 use Rattle.play_outcome.specs.Playing.{ended}
 use Rattle.play_tasks.specs.Solving.{DidPlay, PlaysAll, CameToCommit}
-use Rattle.play_tasks.specs.Telling.{Refuses, EndsAt}
+use Rattle.play_tasks.specs.Telling.{Refuses, EndsAt, IsQuiet}
 use Rattle.play_tasks.proofs.Boxing.{AreCells-append, WasWritten-append}
 use Rattle.play_tasks.proofs.Carrying.{Minds, Keeps-minds, careful-more}
 
@@ -54,6 +58,7 @@ pub record Laws : Type 0 where
   pub gather : RegionLaw
   pub put : RegionSetLaw
   pub boxes : OwningRegionLaw
+  pub leases : (by : Caller) → LeaseLaw by
   pub refs : RefsTaskLaw
   pub collect : CollectTaskLaw
   pub expire : ExpireTaskLaw
@@ -66,6 +71,19 @@ DidPlay-append client (Sets path index bytes) s start shown t journal more g x =
 DidPlay-append client (Reads path index show) s start shown t journal more g x = (x.0, x.1, x.2, IsChunk-append s path index x.1 journal more g x.3)
 DidPlay-append client (Puts path from to numbers) s start shown t journal more g x = (x.0, WasWritten-append client s path from to numbers t start journal more g x.1)
 DidPlay-append client (Gathers path from to show) s start shown t journal more g x = (x.0, x.1, x.2, AreCells-append s path from to x.1 journal more g x.3)
+DidPlay-append client (Leases show) s start shown t journal more g x = record {
+  id = x.id;
+  drawn = x.drawn;
+  witness = x.witness;
+  witness_is = x.witness_is;
+  since = x.since;
+  until = x.until;
+  more = x.more ++ more;
+  is = ap (λ (h : List Event). h ++ more) x.is ∙ append_assoc (start ++ x.since ++ x.until) x.more more;
+  leased = x.leased;
+  shown_is = x.shown_is;
+  becomes = x.becomes;
+}
 DidPlay-append client (Commits message) s start shown t journal more g x = x
 
 pub PlaysAll-append : (client : ℕ) (ls : List Line) (s : SessionState) (start : List Event) (shown : List Shown) (t : SessionState) (journal more : List Event) → Each IsGood journal more → PlaysAll client ls s start shown t journal → PlaysAll client ls s start shown t (journal ++ more)
@@ -108,15 +126,17 @@ came-on client body opened start l ls s mid first journal d c = (c.0 ++ l ∷ []
 
 -- ---- the lines that are left
 -- what these lines come to on a session, where this was shown before them
-pub record Ending (client : ℕ) (access : Access) (start : List Event) (ls : List Line) (s : SessionState) (before : List Shown) (outcome : Outcome) (journal : List Event) : Type 0 where
+pub record Ending (ids : AnyIds) (client : ℕ) (access : Access) (start : List Event) (ls : List Line) (s : SessionState) (before : List Shown) (outcome : Outcome) (journal : List Event) : Type 0 where
   pub played : List Line
   pub left : List Line
   pub body : ls ≡ played ++ left
   pub more : List Shown
-  pub shown_is : outcome.shown ≡ before ++ more
+  pub last : List Shown
+  pub shown_is : outcome.shown ≡ before ++ (more ++ last)
   pub session : SessionState
   pub plays : PlaysAll client played s start more session journal
-  pub ends : EndsAt client access left session start outcome.end journal
+  pub ends : EndsAt client access left session start last outcome.end journal
+  pub drawn : All (IsDrawnLease ids) (more ++ last)
 
 pub plays-none : (client : ℕ) (s : SessionState) (start journal : List Event) → PlaysAll client [] s start [] s journal
 unfolding PlaysAll
@@ -127,17 +147,19 @@ unfolding PlaysAll
 plays-more client l ls s mid t start first more journal d p = (first, more, mid, refl, d, p)
 
 -- after one more line
-pub one-more : (client : ℕ) (access : Access) (start : List Event) (l : Line) (ls : List Line) (s mid : SessionState) (before first : List Shown) (outcome : Outcome) (journal : List Event) → DidPlay client (deed l.number l.call s) s start first mid journal → Ending client access start ls mid (before ++ first) outcome journal
-    → Ending client access start (l ∷ ls) s before outcome journal
-one-more client access start l ls s mid before first outcome journal d e = record {
+pub one-more : (ids : AnyIds) (client : ℕ) (access : Access) (start : List Event) (l : Line) (ls : List Line) (s mid : SessionState) (before first : List Shown) (outcome : Outcome) (journal : List Event) → All (IsDrawnLease ids) first → DidPlay client (deed l.number l.call s) s start first mid journal → Ending ids client access start ls mid (before ++ first) outcome journal
+    → Ending ids client access start (l ∷ ls) s before outcome journal
+one-more ids client access start l ls s mid before first outcome journal drawn d e = record {
   played = l ∷ e.played;
   left = e.left;
   body = ap (λ (x : List Line). l ∷ x) e.body;
   more = first ++ e.more;
-  shown_is = e.shown_is ∙ append_assoc before first e.more;
+  last = e.last;
+  shown_is = e.shown_is ∙ (append_assoc before first (e.more ++ e.last) ∙ ap (λ (x : List Shown). before ++ x) (sym (append_assoc first e.more e.last)));
   session = e.session;
   plays = plays-more client l e.played s mid e.session start first e.more journal d e.plays;
   ends = e.ends;
+  drawn = subst (All (IsDrawnLease ids)) (sym (append_assoc first e.more e.last)) (All-append (IsDrawnLease ids) first (e.more ++ e.last) drawn e.drawn);
 }
 
 module _ (by : Caller) (ids : AnyIds) (access : Access) (mine : Sessions) (start : List Event) where
@@ -149,18 +171,22 @@ module _ (by : Caller) (ids : AnyIds) (access : Access) (mine : Sessions) (start
 
   -- each operation of the play is minded, and it comes to what these lines come to
   abbrev pub GoesWell : List Line → SessionState → List Shown → Play Outcome → List Event → Type 0
-  GoesWell ls s shown p journal = PlayKeeps (Minds ids mine start) by p journal × PlayLeads (Ending by.number access start ls s shown) by p journal
+  GoesWell ls s shown p journal = PlayKeeps (Minds ids mine start) by p journal × PlayLeads (Ending ids by.number access start ls s shown) by p journal
 
-  -- at the first of these lines
-  pub ends-well : (ls : List Line) (s : SessionState) (shown : List Shown) (end : End) (journal : List Event) → EndsAt by.number access ls s start end journal → GoesWell ls s shown (ended shown end) journal
+  -- at the first of these lines, which showed this
+  pub ends-showing : (ls : List Line) (s : SessionState) (shown last : List Shown) (end : End) (journal : List Event) → All (IsDrawnLease ids) last → EndsAt by.number access ls s start last end journal → GoesWell ls s shown (ended (shown ++ last) end) journal
   unfolding PlayKeeps PlayLeads
-  ends-well ls s shown end journal e = (tt, record { played = []; left = ls; body = refl; more = []; shown_is = sym (append-nil shown); session = s; plays = plays-none by.number s start journal; ends = e })
+  ends-showing ls s shown last end journal drawn e = (tt, record { played = []; left = ls; body = refl; more = []; last = last; shown_is = refl; session = s; plays = plays-none by.number s start journal; ends = e; drawn = drawn })
 
-  pub refused-well : (l : Line) (ls : List Line) (s : SessionState) (shown : List Shown) (why : Refusal) (journal : List Event) → Refuses by.number (deed l.number l.call s) s start why journal → GoesWell (l ∷ ls) s shown (ended shown (Refused l.number why)) journal
-  refused-well l ls s shown why journal r = ends-well (l ∷ ls) s shown (Refused l.number why) journal (inl (record { why = why; refuses = r; end_is = refl }))
+  -- ... which showed nothing
+  pub ends-well : (ls : List Line) (s : SessionState) (shown : List Shown) (end : End) (journal : List Event) → EndsAt by.number access ls s start [] end journal → GoesWell ls s shown (ended shown end) journal
+  ends-well ls s shown end journal e = subst (λ (x : List Shown). GoesWell ls s shown (ended x end) journal) (append-nil shown) (ends-showing ls s shown [] end journal (All-nil (IsDrawnLease ids)) e)
+
+  pub refused-well : (l : Line) (ls : List Line) (s : SessionState) (shown : List Shown) (why : Refusal) (journal : List Event) → Refuses by.number (deed l.number l.call s) s start [] why journal → IsQuiet (deed l.number l.call s) [] → GoesWell (l ∷ ls) s shown (ended shown (Refused l.number why)) journal
+  refused-well l ls s shown why journal r quiet = ends-well (l ∷ ls) s shown (Refused l.number why) journal (inl (record { why = why; refuses = r; quiet = quiet; end_is = refl }))
 
   pub starved-well : (l : Line) (ls : List Line) (s : SessionState) (shown : List Shown) (journal : List Event) → Nothing journal → GoesWell (l ∷ ls) s shown (ended shown (Refused l.number NoMemory)) journal
-  starved-well l ls s shown journal c = ends-well (l ∷ ls) s shown (Refused l.number NoMemory) journal (inr (inl (record { end_is = refl; nothing = c })))
+  starved-well l ls s shown journal c = ends-well (l ∷ ls) s shown (Refused l.number NoMemory) journal (inr (inl (record { quiet = refl; end_is = refl; nothing = c })))
 
   -- a call of a machine, and then what follows its answer
   pub called-well : {A : Type 0} (ls : List Line) (s : SessionState) (shown : List Shown) (p : Prog (Result A Refusal)) (f : Result A Refusal → Play Outcome) (Q : Result A Refusal → List Event → Type 0) (journal : List Event)
@@ -168,7 +194,7 @@ module _ (by : Caller) (ids : AnyIds) (access : Access) (mine : Sessions) (start
       → ((answer : Result A Refusal) (h : List Event) → Q answer h → GoesWell ls s shown (f answer) h) → ((h : List Event) → Nothing h → GoesWell ls s shown (f (Err NoMemory)) h) → GoesWell ls s shown (call p f) journal
   called-well ls s shown p f Q journal careful stays owns told answered starved = (
     PlayKeeps-call (Minds ids mine start) Q Nothing by p f journal (Keeps-minds ids mine start by p journal careful stays owns) told stays (λ answer h q. (answered answer h q).0) (λ h c. (starved h c).0),
-    PlayLeads-call (Ending by.number access start ls s shown) Q Nothing by p f journal told stays (λ answer h q. (answered answer h q).1) (λ h c. (starved h c).1),
+    PlayLeads-call (Ending ids by.number access start ls s shown) Q Nothing by p f journal told stays (λ answer h q. (answered answer h q).1) (λ h c. (starved h c).1),
   )
 
 -- what is owed for no session

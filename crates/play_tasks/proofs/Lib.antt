@@ -3,6 +3,7 @@ pub mod Ways
 pub mod Within
 pub mod Based
 pub mod Basing
+pub mod LeaseSteps
 pub mod Locals
 pub mod Machines
 pub mod Stepping
@@ -23,3 +24,9 @@ pub mod Boxing
 pub mod Elsewhere
 pub mod Checking
 pub mod Once
+pub mod Releases
+pub mod LeaseWays
+pub mod Released
+pub mod Drawn
+pub mod Leased
+pub mod Phases

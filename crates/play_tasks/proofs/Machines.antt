@@ -1,6 +1,6 @@
 -- What the calls of a session come to that begin machines.
 use Rattle.std.proofs.Common.{◌≡◌, ◌≢◌, ◌∙◌, ◌-◌, inl, inr, subst, refl, sym, ap, arith, Bool, true, false, ℕ, zero, suc, List, Option, Result, Ok, Err}
-use Rattle.std.specs.Prelude.{not}
+use Rattle.std.specs.Prelude.{not, nat_lt, vec_len, vec_capacity}
 use Rattle.std.proofs.lemmas.Bool.{false≢true}
 use Rattle.ice_ids.specs.declared.Id12.{Id12}
 use Rattle.store_api.specs.declared.machines.Next.{Next}
@@ -34,11 +34,13 @@ use Rattle.play_tasks.specs.declared.working.Working.TheVariants as w
 use Rattle.play_tasks.specs.Lines.{value_shown, cells_shown}
 use Rattle.play_outcome.specs.Playing.{refused}
 use Rattle.play_tasks.specs.Playing.{Rest, doubt_play, after_commit, after_rebase, commit_play}
-use Rattle.play_outcome.specs.Ending.{is_failed}
+use Rattle.leases.specs.Resting.{lease_rest}
+use Rattle.play_outcome.specs.Ending.{ends_failed}
 use Rattle.play_outcome.proofs.Stepping.{is_memory}
 use Rattle.play_outcome.specs.Settling.{answers_well, tells_fault, Faults}
 use Rattle.play_tasks.proofs.Doubting.{no-doubt}
-use Rattle.play_tasks.specs.inside.Working.{after_set, after_get, after_lost, RefusedSo, lines_from, shown_for, rebased_session, working_rest, is_working, is_well}
+use Rattle.play_tasks.proofs.LeaseSteps.{and-of, live-calm}
+use Rattle.play_tasks.specs.inside.Working.{after_set, after_get, after_lost, RefusedSo, lines_from, shown_for, rebased_session, is_live, working_rest, is_working, is_well}
 
 -- ---- a machine begins
 asks : {A : Type 0} (p : Prog (Result A Refusal)) (f : Result A Refusal → Play Outcome) → is_ask p ≡ true → Comes (call p f) (call p f)
@@ -159,16 +161,16 @@ doubt-so line shown s why id task x is rest = λ lost. subst (λ (own : Refusal)
 pub stop-so : (line : ℕ) (shown : List Shown) (s : SessionState) (why : Refusal) (task : SessionTask) (x : Working) → ((id : Id12) → why ≢ R.InDoubt id) → x ≡ w.Ended (record { shown = shown; end = Refused line why }) → RefusedSo line shown s why (working_rest task x)
 stop-so line shown s why task x never is = λ lost. subst (λ (p : Play Outcome). Comes p (working_rest task x)) (sym (no-doubt line shown (doubt_play shown s) lost why never)) (ap (working_rest task) is)
 
-pub stop-blames : (line : ℕ) (shown : List Shown) (why : Refusal) (task : SessionTask) (x : Working) → x ≡ w.Ended (record { shown = shown; end = Refused line why }) → dooms is_failed (working_rest task x) ≡ true → is_fault why ≡ true
-stop-blames line shown why task x is doomed = ap (λ (y : Working). dooms is_failed (working_rest task y)) (sym is) ∙ doomed
+pub stop-blames : (line : ℕ) (shown : List Shown) (why : Refusal) (task : SessionTask) (x : Working) → x ≡ w.Ended (record { shown = shown; end = Refused line why }) → dooms ends_failed (working_rest task x) ≡ true → is_fault why ≡ true
+stop-blames line shown why task x is doomed = ap (λ (y : Working). dooms ends_failed (working_rest task y)) (sym is) ∙ doomed
 
 -- ---- lines that stopped
 -- what is left of a machine tells a fault without memory as what follows it does
-pub ask-faults : {T A : Type 0} (answer : Result (Next T) Refusal) (p : Prog (Result A Refusal)) (f : Result A Refusal → Play Outcome) → dooms is_failed (f (Err R.NoMemory)) ≡ false → is_ask p ≡ true → Faults answer (call p f)
-ask-faults answer p f d live = λ doomed. absurd (false≢true (sym (dooms-call is_failed p f live ∙ d) ∙ doomed))
+pub ask-faults : {T A : Type 0} (answer : Result (Next T) Refusal) (p : Prog (Result A Refusal)) (f : Result A Refusal → Play Outcome) → dooms ends_failed (f (Err R.NoMemory)) ≡ false → is_ask p ≡ true → Faults answer (call p f)
+ask-faults answer p f d live = λ doomed. absurd (false≢true (sym (dooms-call ends_failed p f live ∙ d) ∙ doomed))
 
 -- the machine goes on
-pub again-faults : {T A : Type 0} (answer : Result (Next T) Refusal) (p : Prog (Result A Refusal)) (f : Result A Refusal → Play Outcome) (next : Next T) → dooms is_failed (f (Err R.NoMemory)) ≡ false → answers_well (is_ask p) answer ≡ true → answer ≡ Ok next → next ≡ Again → Faults answer (call p f)
+pub again-faults : {T A : Type 0} (answer : Result (Next T) Refusal) (p : Prog (Result A Refusal)) (f : Result A Refusal → Play Outcome) (next : Next T) → dooms ends_failed (f (Err R.NoMemory)) ≡ false → answers_well (is_ask p) answer ≡ true → answer ≡ Ok next → next ≡ Again → Faults answer (call p f)
 again-faults answer p f next d live is again =
     ask-faults answer p f d (subst (λ (a : Result (Next _) Refusal). answers_well (is_ask p) a ≡ true) (is ∙ ap (λ (n : Next _). Ok n) again) live)
 
@@ -182,11 +184,13 @@ well-faults answer task (w.Setting line at shown set) e = ask-faults answer (set
 well-faults answer task (w.Getting line at for shown get) e = ask-faults answer (get_rest get) (after_get (shown_for for line) line shown.items (get_session get) (lines_from task at)) refl e
 well-faults answer task (w.Putting line at shown set) e = ask-faults answer (region_set_rest set) (after_set line shown.items (lines_from task at)) refl e
 well-faults answer task (w.Gathering line at shown get) e = ask-faults answer (region_rest get) (after_get (cells_shown line) line shown.items (region_session get) (lines_from task at)) refl e
+well-faults answer task (w.Leasing line at shown session lease) e =
+    λ doomed. absurd (live-calm line shown.items session task at lease.id lease.state (and-of (is_live (lease_rest lease)) (nat_lt (vec_len shown) (vec_capacity shown)) e).0 doomed)
 well-faults answer task (w.Committing line tries shown commit) e =
     ask-faults answer (commit_rest commit) (after_commit line shown (doubt_play shown (session_in commit)) (after_lost tries.left tries.policy line shown (message_in commit) (session_in commit))) refl e
 well-faults answer task (w.Settling shown id settle) e = absurd (cc)
 well-faults answer task (w.Rebasing line tries shown message rebase) e = ask-faults answer (rebase_rest rebase) (after_rebase line shown (commit_play tries.left tries.policy line shown message)) refl e
-well-faults answer task (w.Ended outcome) e = λ failed. absurd (by_end (is_failed outcome) e failed)
+well-faults answer task (w.Ended outcome) e = λ failed. absurd (by_end (ends_failed outcome) e failed)
   where
     by_end : (b : Bool) → not b ≡ true → b ≡ true → ⊥
     by_end true e f = cc
@@ -199,7 +203,12 @@ well-works (w.Setting line at shown set) e = e
 well-works (w.Getting line at for shown get) e = e
 well-works (w.Putting line at shown set) e = e
 well-works (w.Gathering line at shown get) e = e
+well-works (w.Leasing line at shown session lease) e = e
 well-works (w.Committing line tries shown commit) e = e
 well-works (w.Settling shown id settle) e = absurd (cc)
 well-works (w.Rebasing line tries shown message rebase) e = e
 well-works (w.Ended outcome) e = refl
+
+-- nor tells it a fault of the store where memory is wanting
+pub well-calm : (task : SessionTask) (x : Working) → is_well x ≡ true → dooms ends_failed (working_rest task x) ≡ true → ⊥
+well-calm task x e doomed = false≢true (well-faults {T = ℕ} (Ok Again) task x e doomed)

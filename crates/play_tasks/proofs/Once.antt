@@ -39,7 +39,7 @@ use Rattle.array_region.specs.Writing.{region_set_program}
 use Rattle.session.specs.declared.chunks.Value.{Value}
 use Rattle.session.specs.Sessions.{SessionState, base_nodes, branch_of, version_of, writes}
 use Rattle.session.specs.Opening.{open_program}
-use Rattle.session.specs.Chunks.{set_program, get_program}
+use Rattle.session.specs.Chunks.{after_draw, set_program, get_program}
 use Rattle.commit_path.specs.declared.commit.Tried.{Tried}
 use Rattle.commit_path.specs.Committing.{Written, is_long, snap_for, log_for, put_log, after_log, put_snapshot, after_snapshot, put_branch, after_branch, after_arrays, arrays_program, unwritten, commit_program}
 use Rattle.commit_path.proofs.Gets.{Gets}
@@ -55,18 +55,26 @@ use Rattle.script_calls.specs.declared.calls.Head.{Head}
 use Rattle.script_calls.specs.declared.calls.Head.TheVariants.{Session, Refs, Collect, Expire, Check}
 use Rattle.play_script.specs.declared.scripts.Line.{Line}
 use Rattle.play_script.specs.declared.scripts.Task.{Task}
+use Rattle.leases.specs.declared.lease.Leased.{Leased}
+use Rattle.leases.specs.declared.witness.Witness.{Witness}
+use Rattle.leases.specs.Plays.{lease_play, release_play}
+use Rattle.leases.specs.Starting.{lease_of}
 use Rattle.play_outcome.specs.declared.outcome.Shown.{Shown}
+use Rattle.play_outcome.specs.declared.outcome.Shown.TheVariants.{Lease}
+use Rattle.play_outcome.specs.declared.outcome.End.{End}
+use Rattle.play_tasks.proofs.LeaseWays.{lease-cases, put-cases}
+use Rattle.play_tasks.proofs.Releases.{each-release, release-cases}
 use Rattle.play_outcome.specs.declared.outcome.Outcome.{Outcome}
 use Rattle.play_outcome.specs.Playing.{refused}
 use Rattle.play_expire.specs.Playing.{terms_of}
-use Rattle.play_tasks.specs.Lines.{Deed, Goes, Sets, Reads, Puts, Gathers, Commits, deed, silent}
-use Rattle.play_tasks.specs.Playing.{after_settling, doubt_of, doubt_play, after_commit, after_rebase, commit_play, tries_of, policy_of, after_line, shown_by, play_deed, play_lines, asked_by, after_open, session_play, headed_play, task_play}
-use Rattle.play_tasks.specs.Bases.{GetsWalked}
+use Rattle.play_tasks.specs.Lines.{Deed, Goes, Sets, Reads, Puts, Gathers, Leases, Commits, deed, silent}
+use Rattle.play_tasks.specs.Playing.{after_settling, doubt_of, doubt_play, after_commit, after_rebase, commit_play, tries_of, policy_of, after_line, shown_by, play_deed, play_lines, asked_by, after_open, session_play, headed_play, task_play, after_confirm, after_lease, lease_by, placed_shown, left_by, release_from, release_all}
+use Rattle.play_tasks.specs.Bases.{GetsWalked, LeasesAlone}
 use Rattle.play_tasks.specs.Played.{PlaysTo, CommitsOnce, is_moved}
 use Rattle.play_tasks.proofs.Doubting.{which, no-doubt, settle-within, walked-get}
 use Rattle.play_tasks.proofs.Elsewhere.{refs-once, collect-once, expire-once}
 use Rattle.play_tasks.proofs.Checking.{check-once}
-use Rattle.play_tasks.proofs.Singly.{OnlyGets, Once, NoCommit, get-none, gets-once, once-path, weaker-within, call-gets, call-once, bind-once, ask-once, either-once}
+use Rattle.play_tasks.proofs.Singly.{OnlyGets, Once, NoCommit, get-none, gets-once, once-path, weaker-within, call-gets, call-once, bind-once, ask-once, either-once, NoCommits, followed-gets, followed-once, nothing-once}
 use Rattle.play_tasks.proofs.Boxing.{AnyNumbers, gather-within, put-box-within}
 use Rattle.play_tasks.proofs.Within.{Within, Climbs, IsOnHead, IsSame, set-within, get-within, arrays-within, ref-within}
 
@@ -74,8 +82,8 @@ use Rattle.play_tasks.proofs.Within.{Within, Climbs, IsOnHead, IsSame, set-withi
 none-gets : (key : Key) → is_branch key ≡ false → NoCommit (Get key)
 none-gets key e = refl
 
-none-puts : (key : Key) (bytes : List ℕ) (why : Why) → NoCommit (PutNew key bytes why)
-none-puts key bytes why = refl
+none-puts : (key : Key) (bytes : List ℕ) (why : Why) → ((base : Id12) → LeasesAlone base key bytes) → NoCommit (PutNew key bytes why)
+none-puts key bytes why leases = refl
 
 -- ---- an opening
 opens-none : {A : Type 0} (p : Prog A) → Gets p → Within NoCommit (λ a. Unit {0}) p
@@ -234,6 +242,20 @@ module _ (line : ℕ) (shown : List Shown) where
       commit-once line shown s (λ old found next. call (rebase_program policy (record s { ids = next })) (after_rebase line shown (commit_play tries policy line shown message)))
       (λ old found next. lost-once policy (commit_play tries policy line shown message) (λ u. tries-once tries policy message u) (record s { ids = next })) message
 
+-- ---- leases
+-- a lease commits nothing
+lease-quiet : (id base : Id12) (w : Witness) → NoCommits (lease_play id base w)
+unfolding NoCommits
+lease-quiet id base w = (refl, tt, λ reply. put-cases NoCommits id w (refl, tt, λ r. tt) tt tt reply)
+
+-- releases are releases alone
+release-gets : (done left : List Shown) (end : End) → OnlyGets (release_from done left end)
+unfolding OnlyGets
+release-gets done left end =
+    each-release end (λ d l p. OnlyGets p) (λ d. tt)
+    (λ d line id before more rest. followed-gets (λ result. release_from (d ++ Lease line id (left_by result) ∷ []) more end) rest (release_play id) (refl, tt, λ reply. release-cases OnlyGets tt tt reply))
+    (λ d s more none rest. rest) done left
+
 -- ---- lines
 -- whatever follows a line
 abbrev GoesOn : (SessionState → List Shown → Play Outcome) → Type 0
@@ -248,6 +270,19 @@ module _ (line : ℕ) (shown : List Shown) (rest : SessionState → List Shown �
   get-once s show (Ok value) = g s (shown ++ show value ∷ [])
   get-once s show (Err why) = ends-once line shown why
 
+  -- a lease, and what follows it
+  leased-once : (t : SessionState) (show : Id12 → Shown) (l : Leased) → Once (after_lease show line shown t rest l)
+  leased-once t show l = by_result l.result
+    where
+      by_result : (r : Result (Unit {0}) Refusal) → Once (after_confirm line (shown ++ placed_shown show l.placed) t rest r)
+      by_result (Ok done) = g t (shown ++ placed_shown show l.placed)
+      by_result (Err why) = ends-once line (shown ++ placed_shown show l.placed) why
+
+  lease-once : (s : SessionState) (show : Id12 → Shown) → Once (lease_by show line shown s rest (lease_of s))
+  lease-once s show =
+      lease-cases (λ (r : Result (Play Leased) Refusal). Once (lease_by show line shown s rest r)) s
+      (λ id w d e. nothing-once (after_lease show line shown (after_draw s) rest) (leased-once (after_draw s) show) (lease_play id s.base w) (lease-quiet id s.base w)) (λ why e. ends-once line shown why)
+
   deed-once : (access : Access) (s : SessionState) (d : Deed) → Once (play_deed access line shown s d rest)
   deed-once access s (Goes (Ok went)) = g went.1 (shown ++ went.0)
   deed-once access s (Goes (Err why)) = ends-once line shown why
@@ -260,6 +295,7 @@ module _ (line : ℕ) (shown : List Shown) (rest : SessionState → List Shown �
       (ends-once line shown R.NoMemory)
   deed-once access s (Gathers path from to show) =
       call-once (λ (r : Result (List ℤ) Refusal). IfOk r AnyNumbers) (region_program s path from to) (λ answer. after_line line shown (shown_by s show answer) rest) (gather-within NoCommit none-gets none-puts s path from to) (λ r q. get-once s show r) (ends-once line shown R.NoMemory)
+  deed-once access s (Leases show) = lease-once s show
   deed-once access s (Commits message) = tries-once line shown (tries_of access) (policy_of access) message s
 
 lines-once : (access : Access) (ls : List Line) (s : SessionState) (shown : List Shown) → Once (play_lines access ls s shown)
@@ -278,12 +314,12 @@ session-once ids access line body =
 
 -- ---- tasks
 by_head : (ids : AnyIds) (task : Task) (head : Head) → Once (headed_play head ids task)
-by_head ids task (Session access) = session-once ids access task.line task.body
+by_head ids task (Session access) = followed-once release_all (λ o. release-gets [] o.shown o.end) (session_play ids access task.line task.body) (session-once ids access task.line task.body)
 by_head ids task Refs = refs-once task.body []
 by_head ids task (Collect cutoff) = collect-once task.line cutoff
 by_head ids task (Expire cutoff drop_branches drop_tags) = expire-once task.line (terms_of cutoff drop_branches drop_tags)
 by_head ids task Check = check-once task.line
 
--- Of the operations on a path of a task's play, one at most is a commit that was done, or may have been; behind it there are gets alone.
+-- Of the operations on a path of a task's play, one at most is a commit that was done, or may have been; behind it there are gets and releases of leases alone.
 pub task-once : (ids : AnyIds) (task : Task) (events : List Event) (outcome : Outcome) → PlaysTo (task_play ids task) events outcome → CommitsOnce events
 task-once ids task events outcome plays = once-path (task_play ids task) events outcome (by_head ids task task.head) plays

@@ -1,8 +1,8 @@
 -- Whatever others do, each operation of a task is minded, and its outcome tells the journal.
-use Rattle.std.proofs.Common.{◌≡◌, inl, inr, ℕ, ℤ, ◌<◌, refl, sym, ap, subst, ◌∙◌, true, List, [], ◌∷◌, ◌++◌, zero-add, arith, Result, Ok, Err}
+use Rattle.std.proofs.Common.{◌≡◌, inl, inr, ℕ, ℤ, ◌<◌, refl, sym, ap, subst, ◌∙◌, true, List, [], ◌∷◌, ◌++◌, append-nil, zero-add, arith, Result, Ok, Err}
 use Rattle.std.specs.Prelude.{All, Option, Some, None, IfOk, nat_lt}
 use Rattle.std.specs.List.{list_all}
-use Rattle.std.proofs.lemmas.List.Elements.{All-head, All-tail, All-replicate}
+use Rattle.std.proofs.lemmas.List.Elements.{All-nil, All-cons, All-head, All-tail, All-replicate}
 use Rattle.std.specs.Str.{IsUtf8}
 use Rattle.std.proofs.lemmas.Str.{IsUtf8-from_is_utf8}
 use Rattle.ice_ids.specs.declared.Id12.{Id12}
@@ -24,7 +24,7 @@ use Rattle.session.specs.declared.chunks.Value.{Value}
 use Rattle.session.specs.Sessions.{SessionState}
 use Rattle.session.specs.Sources.{IsLater}
 use Rattle.session.specs.Opening.{open_program}
-use Rattle.session.specs.Chunks.{set_program, get_program}
+use Rattle.session.specs.Chunks.{after_draw, set_program, get_program}
 use Rattle.commit_path.specs.Owed.{Sessions, IsCareful}
 use Rattle.store_api.specs.Telling.{ChangedNothing}
 use Rattle.commit_path.specs.Own.{HasPutDrawn, OwesOwn, Owns}
@@ -60,10 +60,10 @@ use Rattle.play_script.specs.Well.{IsWellEdit, IsWellCall, IsWellLine, IsWellTas
 use Rattle.play_outcome.specs.declared.outcome.Shown.{Shown}
 use Rattle.play_outcome.specs.declared.outcome.End.TheVariants.{Done, Refused}
 use Rattle.play_outcome.specs.declared.outcome.Outcome.{Outcome}
-use Rattle.play_tasks.specs.Lines.{Deed, Goes, Sets, Reads, Puts, Gathers, Commits, deed, edit_deed, read_deed, key_set_deed, key_get_deed, silent, filled}
+use Rattle.play_tasks.specs.Lines.{Deed, Goes, Sets, Reads, Puts, Gathers, Leases, Commits, deed, edit_deed, read_deed, key_set_deed, key_get_deed, lease_shown, silent, filled}
 use Rattle.play_outcome.specs.Playing.{ended}
-use Rattle.play_tasks.specs.Playing.{tries_of, policy_of, commit_play, play_deed, play_lines, after_line, after_open, shown_by, asked_by, session_play, headed_play, task_play}
-use Rattle.play_tasks.specs.Solving.{DidPlay, PlaysAll, WasCarried, IsOfTask}
+use Rattle.play_tasks.specs.Playing.{after_confirm, after_lease, lease_by, placed_shown, release_all, tries_of, policy_of, commit_play, play_deed, play_lines, after_line, after_open, shown_by, asked_by, session_play, headed_play, task_play}
+use Rattle.play_tasks.specs.Solving.{DidLease, DidPlay, PlaysAll, WasCarried, IsOfTask}
 use Rattle.play_refs.specs.Playing.{refs_play}
 use Rattle.play_refs.specs.Telling.{OwesRefs}
 use Rattle.chunk_gc.specs.Exact.{IsOwed}
@@ -77,11 +77,24 @@ use Rattle.play_tasks.proofs.Basing.{session-opens}
 use Rattle.play_tasks.proofs.Within.{IsSame}
 use Rattle.play_tasks.proofs.Boxing.{By, AnyNumbers, MovesNone, none-gets, none-puts, gather-goes, put-box-goes, within-leads, stays-leads}
 use Rattle.play_tasks.specs.Owing.{OwesBy, OwesOwnBy, IsDue, ComesBefore, BeforeChange}
-use Rattle.play_tasks.specs.Telling.{Refuses, TellsBy, TellsOutcome}
+use Rattle.play_tasks.specs.Telling.{Refuses, RefusesLease, IsQuiet, SessionTells, WereReleased, TellsBy, TellsOutcome}
+use Rattle.leases.proofs.Following.{PlayKeeps-followed, PlayLeads-followed}
+use Rattle.repo_read.proofs.Own.{Since, Since-none}
+use Rattle.ice_ids.specs.Drawing.{drawn12}
+use Rattle.leases.specs.declared.lease.Leased.{Leased}
+use Rattle.leases.specs.declared.witness.Witness.{Witness}
+use Rattle.leases.specs.Plays.{lease_play, witness_of}
+use Rattle.leases.specs.Starting.{lease_of}
+use Rattle.leases.specs.Following.{followed}
+use Rattle.leases.specs.Telling.{LeaseTells, WasLeased}
+use Rattle.play_tasks.proofs.Drawn.{deed-drawn, lease-drawn, lease-shows}
+use Rattle.play_tasks.proofs.LeaseWays.{lease-cases}
+use Rattle.play_tasks.proofs.Leased.{Kept, drew-owns, drew-ready, lease-keeps, lease-minds}
+use Rattle.play_tasks.proofs.Released.{PlayLeads-both, HasReleased, IsDrawnLease, PlayLeads-since, releases-keep, releases-lead}
 use Rattle.play_outcome.proofs.Plays.{PlayLeads-weaker}
 use Rattle.play_tasks.proofs.Carrying.{PlayKeeps-own, Minds, Keeps-minds, PlayKeeps-both, Leads-both, PlayLeads-carry, PlayKeeps-good, Leads-good, careful-more, puts-none}
 use Rattle.play_tasks.proofs.Early.{put-none-before, WasBegun-more}
-use Rattle.play_tasks.proofs.Going.{Laws, Ending, Came, Came-append, came-on, plays-none, one-more, DidPlay-append, GoesWell, ends-well, refused-well, starved-well, called-well, none-careful}
+use Rattle.play_tasks.proofs.Going.{Laws, Ending, ends-showing, Came, Came-append, came-on, plays-none, one-more, DidPlay-append, GoesWell, ends-well, refused-well, starved-well, called-well, none-careful}
 use Rattle.play_tasks.proofs.Ready.{IsReady, deed-ready}
 use Rattle.play_tasks.proofs.Tried.{IsTried}
 use Rattle.play_tasks.proofs.Trying.{tries-well}
@@ -117,6 +130,7 @@ deed-bytes line (call.Read look) s path index bytes well d = absurd (reads-no-by
 deed-bytes line (call.Commit message) s path index bytes well d = absurd cc
 deed-bytes line (call.Ref own) s path index bytes well d = absurd cc
 deed-bytes line (call.Prop name value) s path index bytes well d = absurd cc
+deed-bytes line call.Lease s path index bytes well d = absurd cc
 
 key-set-no-message : (held : List ℕ) (o : Option ZarrKey) (s : SessionState) (message : List ℕ) → key_set_deed held o s ≡ Commits message → ⊥
 key-set-no-message held None s message d = cc
@@ -144,6 +158,7 @@ deed-utf8 line (call.Edit change) s message well d = absurd (edits-no-message ch
 deed-utf8 line (call.Read look) s message well d = absurd (reads-no-message line look s message d)
 deed-utf8 line (call.Ref own) s message well d = absurd cc
 deed-utf8 line (call.Prop name value) s message well d = absurd cc
+deed-utf8 line call.Lease s message well d = absurd cc
 deed-utf8 line (call.Commit own) s message well d = let is : own ≡ message = cc in subst IsUtf8 is (IsUtf8-from_is_utf8 own well)
 
 module _ (L : Laws) (by : Caller) (ids : AnyIds) (access : Access) (body : List Line) (opened : SessionState) (start : List Event) where
@@ -159,8 +174,8 @@ module _ (L : Laws) (by : Caller) (ids : AnyIds) (access : Access) (body : List 
   abbrev Well : List Line → SessionState → List Shown → Play Outcome → List Event → Type 0
   Well ls s shown p journal = GoesWell by ids access Tried start ls s shown p journal
 
-  refused : (l : Line) (ls : List Line) (s : SessionState) (shown : List Shown) (why : Refusal) (journal : List Event) → Refuses by.number (deed l.number l.call s) s start why journal → Well (l ∷ ls) s shown (ended shown (Refused l.number why)) journal
-  refused l ls s shown why journal r = refused-well by ids access Tried start l ls s shown why journal r
+  refused : (l : Line) (ls : List Line) (s : SessionState) (shown : List Shown) (why : Refusal) (journal : List Event) → Refuses by.number (deed l.number l.call s) s start [] why journal → IsQuiet (deed l.number l.call s) [] → Well (l ∷ ls) s shown (ended shown (Refused l.number why)) journal
+  refused l ls s shown why journal r quiet = refused-well by ids access Tried start l ls s shown why journal r quiet
 
   starved : (l : Line) (ls : List Line) (s : SessionState) (shown : List Shown) (journal : List Event) → Nothing journal → Well (l ∷ ls) s shown (ended shown (Refused l.number NoMemory)) journal
   starved l ls s shown journal c = starved-well by ids access Tried start l ls s shown journal c
@@ -178,27 +193,27 @@ module _ (L : Laws) (by : Caller) (ids : AnyIds) (access : Access) (body : List 
   AllGoWell ls = (journal : List Event) → Nothing journal → PutNone journal → (s : SessionState) (shown : List Shown) → IsReady ids by.number start s journal → At ls s journal → Well ls s shown (play_lines access ls s shown) journal
 
   -- a line was played, and the others behind it go well
-  went-well : (l : Line) (ls : List Line) (s : SessionState) (shown first : List Shown) (mid : SessionState) (journal : List Event) → DidPlay by.number (deed l.number l.call s) s start first mid journal → Well ls mid (shown ++ first) (play_lines access ls mid (shown ++ first)) journal
+  went-well : (l : Line) (ls : List Line) (s : SessionState) (shown first : List Shown) (mid : SessionState) (journal : List Event) → IsLater ids s.ids → DidPlay by.number (deed l.number l.call s) s start first mid journal → Well ls mid (shown ++ first) (play_lines access ls mid (shown ++ first)) journal
       → Well (l ∷ ls) s shown (play_lines access ls mid (shown ++ first)) journal
-  went-well l ls s shown first mid journal did rest =
+  went-well l ls s shown first mid journal later did rest =
       let Did : List Event → Type 0 = λ h. DidPlay by.number (deed l.number l.call s) s start first mid h in
       let p = play_lines access ls mid (shown ++ first) in (
         rest.0,
-        PlayLeads-weaker (λ outcome h. Did h × Ending by.number access start ls mid (shown ++ first) outcome h) (Ending by.number access start (l ∷ ls) s shown) (λ outcome h x. one-more by.number access start l ls s mid shown first outcome h x.0 x.1) by p journal
-            (PlayLeads-carry Did (λ h more g d. DidPlay-append by.number (deed l.number l.call s) s start first mid h more g d) ids Tried start by p journal (Ending by.number access start ls mid (shown ++ first)) rest.0 did rest.1),
+        PlayLeads-weaker (λ outcome h. Did h × Ending ids by.number access start ls mid (shown ++ first) outcome h) (Ending ids by.number access start (l ∷ ls) s shown) (λ outcome h x. one-more ids by.number access start l ls s mid shown first outcome h (deed-drawn ids by.number l.number l.call s start first mid h later x.0) x.0 x.1) by p journal
+            (PlayLeads-carry Did (λ h more g d. DidPlay-append by.number (deed l.number l.call s) s start first mid h more g d) ids Tried start by p journal (Ending ids by.number access start ls mid (shown ++ first)) rest.0 did rest.1),
       )
 
   -- ---- a line that sets a chunk
-  module _ (l : Line) (ls : List Line) (s : SessionState) (shown : List Shown) (path index bytes : List ℕ) (sets : deed l.number l.call s ≡ Sets path index bytes) (go : AllGoWell ls) where
+  module _ (l : Line) (ls : List Line) (s : SessionState) (shown : List Shown) (path index bytes : List ℕ) (sets : deed l.number l.call s ≡ Sets path index bytes) (go : AllGoWell ls) (later : IsLater ids s.ids) where
     abbrev SetAnswers : Result SessionState Refusal → List Event → Type 0
     SetAnswers answer h = (SetTells by.number s path index bytes start answer h × IfOk answer (λ t. IsSpelled t × IsOpened t h × IsLater ids t.ids)) × (PutNone h × IfOk answer (λ t. Owns ids by.number t start h))
 
     set-answered : (answer : Result SessionState Refusal) (h : List Event) → At (l ∷ ls) s h × SetAnswers answer h → Well (l ∷ ls) s shown (after_line l.number shown (silent answer) (play_lines access ls)) h
     set-answered (Ok t) h q =
         let did = subst (λ (d : Deed). DidPlay by.number d s start [] t h) (sym sets) (refl, q.1.0.0.0) in
-        went-well l ls s shown [] t h did
+        went-well l ls s shown [] t h later did
         (go h q.1.0.0.1 q.1.1.0 t (shown ++ []) (record { opened = q.1.0.1.1; spelled = q.1.0.1.0; later = q.1.0.1.2; owned = q.1.1.1 }) (came-on by.number body opened start l ls s t [] h did q.0))
-    set-answered (Err why) h q = refused l ls s shown why h (subst (λ (d : Deed). Refuses by.number d s start why h) (sym sets) q.1.0.0)
+    set-answered (Err why) h q = refused l ls s shown why h (subst (λ (d : Deed). Refuses by.number d s start [] why h) (sym sets) q.1.0.0) (subst (λ (d : Deed). IsQuiet d []) (sym sets) refl)
 
     set-well : (journal : List Event) → list_all (λ n. nat_lt n 256) bytes ≡ true → IsReady ids by.number start s journal → Nothing journal → PutNone journal → At (l ∷ ls) s journal → Well (l ∷ ls) s shown (play_deed access l.number shown s (Sets path index bytes) (play_lines access ls)) journal
     set-well journal are ready c f came =
@@ -219,9 +234,9 @@ module _ (L : Laws) (by : Caller) (ids : AnyIds) (access : Access) (body : List 
     get-answered : (answer : Result Value Refusal) (h : List Event) → At (l ∷ ls) s h × GetAnswers answer h → Well (l ∷ ls) s shown (after_line l.number shown (shown_by s show answer) (play_lines access ls)) h
     get-answered (Ok value) h q =
         let did = subst (λ (d : Deed). DidPlay by.number d s start (show value ∷ []) s h) (sym reads) (refl, value, refl, q.1.0.0.0) in
-        went-well l ls s shown (show value ∷ []) s h did
+        went-well l ls s shown (show value ∷ []) s h later did
         (go h q.1.0.0.1 q.1.1.0 s (shown ++ show value ∷ []) (record { opened = q.1.0.1; spelled = spelled; later = later; owned = q.1.1.1 }) (came-on by.number body opened start l ls s s (show value ∷ []) h did q.0))
-    get-answered (Err why) h q = refused l ls s shown why h (subst (λ (d : Deed). Refuses by.number d s start why h) (sym reads) q.1.0.0)
+    get-answered (Err why) h q = refused l ls s shown why h (subst (λ (d : Deed). Refuses by.number d s start [] why h) (sym reads) q.1.0.0) (subst (λ (d : Deed). IsQuiet d []) (sym reads) refl)
 
     get-well : (journal : List Event) → IsOpened s journal → Owns ids by.number s start journal → Nothing journal → PutNone journal → At (l ∷ ls) s journal → Well (l ∷ ls) s shown (play_deed access l.number shown s (Reads path index show) (play_lines access ls)) journal
     get-well journal ready owned c f came =
@@ -235,7 +250,7 @@ module _ (L : Laws) (by : Caller) (ids : AnyIds) (access : Access) (body : List 
         (Leads-good (At (l ∷ ls) s) (at-append (l ∷ ls) s) ids Tried by GetAnswers p journal careful came told) get-answered (λ h n. starved l ls s shown h n)
 
   -- ---- a line that puts numbers into a box
-  module _ (l : Line) (ls : List Line) (s : SessionState) (shown : List Shown) (path from to : List ℕ) (numbers : List ℤ) (puts : deed l.number l.call s ≡ Puts path from to numbers) (go : AllGoWell ls) where
+  module _ (l : Line) (ls : List Line) (s : SessionState) (shown : List Shown) (path from to : List ℕ) (numbers : List ℤ) (puts : deed l.number l.call s ≡ Puts path from to numbers) (go : AllGoWell ls) (later : IsLater ids s.ids) where
     abbrev PutTells : Result SessionState Refusal → List Event → Type 0
     PutTells answer h = RegionSetTells by.number s path from to numbers start answer h × IfOk answer (λ t. IsSpelled t × IsOpened t h × IsLater ids t.ids)
 
@@ -248,9 +263,9 @@ module _ (L : Laws) (by : Caller) (ids : AnyIds) (access : Access) (body : List 
     put-answered : (answer : Result SessionState Refusal) (h : List Event) → At (l ∷ ls) s h × PutAnswers answer h → Well (l ∷ ls) s shown (after_line l.number shown (silent answer) (play_lines access ls)) h
     put-answered (Ok t) h q =
         let did = subst (λ (d : Deed). DidPlay by.number d s start [] t h) (sym puts) (refl, q.1.0.0.0) in
-        went-well l ls s shown [] t h did
+        went-well l ls s shown [] t h later did
         (go h q.1.1.1.0 q.1.1.1.1.0 t (shown ++ []) (record { opened = q.1.0.1.1; spelled = q.1.0.1.0; later = q.1.0.1.2; owned = q.1.1.1.1.1 }) (came-on by.number body opened start l ls s t [] h did q.0))
-    put-answered (Err why) h q = refused l ls s shown why h (subst (λ (d : Deed). Refuses by.number d s start why h) (sym puts) (q.1.0.0, q.1.1.0, q.1.1.1.0))
+    put-answered (Err why) h q = refused l ls s shown why h (subst (λ (d : Deed). Refuses by.number d s start [] why h) (sym puts) (q.1.0.0, q.1.1.0, q.1.1.1.0)) (subst (λ (d : Deed). IsQuiet d []) (sym puts) refl)
 
     put-well : (journal : List Event) → IsReady ids by.number start s journal → Nothing journal → PutNone journal → At (l ∷ ls) s journal → Well (l ∷ ls) s shown (play_deed access l.number shown s (Puts path from to numbers) (play_lines access ls)) journal
     put-well journal ready c f came =
@@ -284,9 +299,9 @@ module _ (L : Laws) (by : Caller) (ids : AnyIds) (access : Access) (body : List 
     gather-answered : (answer : Result (List ℤ) Refusal) (h : List Event) → Along h × GatherAnswers answer h → Well (l ∷ ls) s shown (after_line l.number shown (shown_by s show answer) (play_lines access ls)) h
     gather-answered (Ok numbers) h q =
         let did = subst (λ (d : Deed). DidPlay by.number d s start (show numbers ∷ []) s h) (sym gathers) (refl, numbers, refl, q.1.0) in
-        went-well l ls s shown (show numbers ∷ []) s h did
+        went-well l ls s shown (show numbers ∷ []) s h later did
         (go h q.1.1.1.0 q.1.1.1.1.0 s (shown ++ show numbers ∷ []) (record { opened = q.0.1; spelled = spelled; later = later; owned = q.1.1.1.1.1 }) (came-on by.number body opened start l ls s s (show numbers ∷ []) h did q.0.0))
-    gather-answered (Err why) h q = refused l ls s shown why h (subst (λ (d : Deed). Refuses by.number d s start why h) (sym gathers) (q.1.0, q.1.1.0, q.1.1.1.0))
+    gather-answered (Err why) h q = refused l ls s shown why h (subst (λ (d : Deed). Refuses by.number d s start [] why h) (sym gathers) (q.1.0, q.1.1.0, q.1.1.1.0)) (subst (λ (d : Deed). IsQuiet d []) (sym gathers) refl)
 
     gather-well : (journal : List Event) → IsOpened s journal → Owns ids by.number s start journal → Nothing journal → PutNone journal → At (l ∷ ls) s journal → Well (l ∷ ls) s shown (play_deed access l.number shown s (Gathers path from to show) (play_lines access ls)) journal
     gather-well journal ready owned c f came =
@@ -304,6 +319,98 @@ module _ (L : Laws) (by : Caller) (ids : AnyIds) (access : Access) (body : List 
         called-well by ids access Tried start (l ∷ ls) s shown p (λ answer. after_line l.number shown (shown_by s show answer) (play_lines access ls)) (λ answer h. Along h × GatherAnswers answer h) journal careful law.2
         (gets-keep (λ h client op. OwesOwn ids client start op h) by (λ h key. tt) p gets journal)
         (Leads-good Along along ids Tried by GatherAnswers p journal careful (came, ready) told) gather-answered (λ h n. starved l ls s shown h n)
+
+  -- ---- a line that leases
+  module _ (l : Line) (ls : List Line) (s : SessionState) (shown : List Shown) (show : Id12 → Shown) (leases : deed l.number l.call s ≡ Leases show) (go : AllGoWell ls) (began : List Event) (ready : IsReady ids by.number start s began) (unchanged : Nothing began) where
+    -- what stays, whatever good events come
+    abbrev Stays : List Event → Type 0
+    Stays h = At (l ∷ ls) s h × IsOpened s h
+
+    stays-on : (h more : List Event) → Each IsGood h more → Stays h → Stays (h ++ more)
+    stays-on h more g k = (at-append (l ∷ ls) s h more g k.0, L.session.kept s h more g k.1)
+
+    module _ (id : Id12) (w : Witness) (drawn : drawn12 s.ids ≡ Some id) (named : witness_of s.origin ≡ Some w) where
+      -- what the lease tells, and what the client's session knows behind it
+      abbrev Keeps : List Event → Type 0
+      Keeps h = Kept L by ids Tried start s id w drawn h
+
+      abbrev Told : Leased → List Event → Type 0
+      Told leased h = Since began h × (Stays h × (LeaseTells by.number id s.base w began leased h × Keeps h))
+
+      -- the moment at which it began, and until when it went
+      since-start : (P : List Event → Type 0) → P began → P (start ++ unchanged.more)
+      since-start P p = subst P unchanged.is p
+
+      is-drawn : (i : Id12) → i ≡ id → (line : ℕ) → show ≡ lease_shown line → IsDrawnLease ids (show i)
+      is-drawn i same line is = subst (IsDrawnLease ids) (sym (ap (λ (f : Id12 → Shown). f i) is)) (lease-drawn ids line i s ready.later (drawn ∙ ap Some (sym same)))
+
+      shows-its : show ≡ lease_shown l.number
+      shows-its = lease-shows l.number l.call s show leases
+
+      placed-drawn : (placed : Option Id12) (result : Result (Unit {0}) Refusal) (h : List Event) → LeaseTells by.number id s.base w began (record { placed = placed; result = result }) h → All (IsDrawnLease ids) (placed_shown show placed)
+      placed-drawn None result h t = All-nil (IsDrawnLease ids)
+      placed-drawn (Some i) result h t = All-cons (IsDrawnLease ids) (show i) [] (is-drawn i t.0 l.number shows-its) (All-nil (IsDrawnLease ids))
+
+      did-lease : (i : Id12) (h : List Event) → LeaseTells by.number id s.base w began (record { placed = Some i; result = Ok tt }) h → Since began h → DidLease by.number show s start (show i ∷ []) (after_draw s) h
+      did-lease i h t k = record {
+        id = id;
+        drawn = drawn;
+        witness = w;
+        witness_is = named;
+        since = unchanged.more;
+        until = k.more;
+        more = [];
+        is = k.is ∙ (ap (λ (x : List Event). x ++ k.more) unchanged.is ∙ sym (append-nil (start ++ unchanged.more ++ k.more)));
+        leased = subst (λ (x : List Event). WasLeased by.number id s.base w (start ++ unchanged.more) x) (k.is ∙ ap (λ (x : List Event). x ++ k.more) unchanged.is) (since-start (λ x. WasLeased by.number id s.base w x h) t.1);
+        shown_is = ap (λ (x : Id12). show x ∷ []) t.0;
+        becomes = refl;
+      }
+
+      lease-refused : (placed : Option Id12) (why : Refusal) (h : List Event) → LeaseTells by.number id s.base w began (record { placed = placed; result = Err why }) h → Nothing h → Well (l ∷ ls) s shown (ended (shown ++ placed_shown show placed) (Refused l.number why)) h
+      lease-refused placed why h t k =
+          let refuses : RefusesLease by.number show s start (placed_shown show placed) why h = inr (record {
+            id = id;
+            drawn = drawn;
+            witness = w;
+            witness_is = named;
+            since = unchanged.more;
+            placed = placed;
+            tells = since-start (λ x. LeaseTells by.number id s.base w x (record { placed = placed; result = Err why }) h) t;
+            last_is = refl;
+          }) in
+          ends-showing by ids access Tried start (l ∷ ls) s shown (placed_shown show placed) (Refused l.number why) h (placed-drawn placed (Err why) h t) (inl (record {
+            why = why;
+            refuses = subst (λ (d : Deed). Refuses by.number d s start (placed_shown show placed) why h) (sym leases) (refuses, k);
+            quiet = subst (λ (d : Deed). IsQuiet d (placed_shown show placed)) (sym leases) tt;
+            end_is = refl;
+          }))
+
+      -- behind the lease
+      leased-well : (placed : Option Id12) (result : Result (Unit {0}) Refusal) (h : List Event) → Told (record { placed = placed; result = result }) h → Well (l ∷ ls) s shown (after_confirm l.number (shown ++ placed_shown show placed) (after_draw s) (play_lines access ls) result) h
+      leased-well placed (Err why) h q = lease-refused placed why h q.1.1.0 q.1.1.1.nothing
+      leased-well None (Ok done) h q = absurd q.1.1.0
+      leased-well (Some i) (Ok done) h q =
+          let did = subst (λ (d : Deed). DidPlay by.number d s start (show i ∷ []) (after_draw s) h) (sym leases) (did-lease i h q.1.1.0 q.0) in
+          went-well l ls s shown (show i ∷ []) (after_draw s) h ready.later did
+          (go h q.1.1.1.nothing q.1.1.1.put_none (after_draw s) (shown ++ show i ∷ []) (drew-ready ids by.number start s began h ready q.1.0.1 q.1.1.1.owns) (came-on by.number body opened start l ls s (after_draw s) (show i ∷ []) h did q.1.0.0))
+
+      begun-well : Stays began → Keeps began → Well (l ∷ ls) s shown (followed (lease_play id s.base w) (after_lease show l.number shown (after_draw s) (play_lines access ls))) began
+      begun-well first holds =
+          let p = lease_play id s.base w in
+          let f = after_lease show l.number shown (after_draw s) (play_lines access ls) in
+          let minds = lease-minds L by ids Tried start s id w drawn began ready unchanged in
+          let tells = PlayLeads-both (LeaseTells by.number id s.base w began) (λ leased h. Keeps h) by p began ((L.leases by).leads id s.base w began) (lease-keeps L by ids Tried start s id w drawn began ready.later holds) in
+          let told : PlayLeads Told by p began = PlayLeads-since (λ leased h. Stays h × (LeaseTells by.number id s.base w began leased h × Keeps h)) by began p began (Since-none began) (PlayLeads-carry Stays stays-on ids Tried start by p began (λ leased h. LeaseTells by.number id s.base w began leased h × Keeps h) minds first tells) in (
+            PlayKeeps-followed (Minds ids Tried start) Told by p f began minds told (λ leased h q. (leased-well leased.placed leased.result h q).0),
+            PlayLeads-followed (Ending ids by.number access start (l ∷ ls) s shown) Told by p f began told (λ leased h q. (leased-well leased.placed leased.result h q).1),
+          )
+
+  lease-well : (l : Line) (ls : List Line) (s : SessionState) (shown : List Shown) (show : Id12 → Shown) → deed l.number l.call s ≡ Leases show → AllGoWell ls → (journal : List Event) → IsReady ids by.number start s journal → Nothing journal → PutNone journal → At (l ∷ ls) s journal
+      → Well (l ∷ ls) s shown (lease_by show l.number shown s (play_lines access ls) (lease_of s)) journal
+  lease-well l ls s shown show leases go journal ready c f came =
+      lease-cases (λ (r : Result (Play Leased) Refusal). Well (l ∷ ls) s shown (lease_by show l.number shown s (play_lines access ls) r) journal) s
+      (λ id w drawn named. begun-well l ls s shown show leases go journal ready c id w drawn named (came, ready.opened) (record { nothing = c; put_none = f; owns = drew-owns ids by.number s start journal ready.owned }))
+      (λ why e. refused l ls s shown why journal (subst (λ (d : Deed). Refuses by.number d s start [] why journal) (sym leases) (inl (e, refl), c)) (subst (λ (d : Deed). IsQuiet d []) (sym leases) tt))
 
   -- ---- a line that commits
   commit-well : (l : Line) (ls : List Line) (s : SessionState) (shown : List Shown) (message : List ℕ) → deed l.number l.call s ≡ Commits message → (journal : List Event) → IsUtf8 message → IsReady ids by.number start s journal → Nothing journal → PutNone journal → At (l ∷ ls) s journal
@@ -323,20 +430,21 @@ module _ (L : Laws) (by : Caller) (ids : AnyIds) (access : Access) (body : List 
   -- ---- any line
   deed-well : (l : Line) (ls : List Line) (s : SessionState) (shown : List Shown) (journal : List Event) → IsWellCall l.call → IsReady ids by.number start s journal → Nothing journal → PutNone journal → At (l ∷ ls) s journal → AllGoWell ls
       → (d : Deed) → deed l.number l.call s ≡ d → Well (l ∷ ls) s shown (play_deed access l.number shown s d (play_lines access ls)) journal
-  deed-well l ls s shown journal well ready c f came go (Goes (Err why)) e = refused l ls s shown why journal (subst (λ (d : Deed). Refuses by.number d s start why journal) (sym e) (refl, c))
+  deed-well l ls s shown journal well ready c f came go (Goes (Err why)) e = refused l ls s shown why journal (subst (λ (d : Deed). Refuses by.number d s start [] why journal) (sym e) (refl, c)) (subst (λ (d : Deed). IsQuiet d []) (sym e) refl)
   deed-well l ls s shown journal well ready c f came go (Goes (Ok went)) e =
       let did = subst (λ (d : Deed). DidPlay by.number d s start went.0 went.1 journal) (sym e) refl in
-      went-well l ls s shown went.0 went.1 journal did
+      went-well l ls s shown went.0 went.1 journal ready.later did
       (go journal c f went.1 (shown ++ went.0) (deed-ready L.session L.owning ids by.number start l.number l.call s went journal well ready e) (came-on by.number body opened start l ls s went.1 went.0 journal did came))
-  deed-well l ls s shown journal well ready c f came go (Sets path index bytes) e = set-well l ls s shown path index bytes e go journal (deed-bytes l.number l.call s path index bytes well e) ready c f came
+  deed-well l ls s shown journal well ready c f came go (Sets path index bytes) e = set-well l ls s shown path index bytes e go ready.later journal (deed-bytes l.number l.call s path index bytes well e) ready c f came
   deed-well l ls s shown journal well ready c f came go (Reads path index show) e = get-well l ls s shown path index show e go ready.spelled ready.later journal ready.opened ready.owned c f came
-  deed-well l ls s shown journal well ready c f came go (Puts path from to numbers) e = put-well l ls s shown path from to numbers e go journal ready c f came
+  deed-well l ls s shown journal well ready c f came go (Puts path from to numbers) e = put-well l ls s shown path from to numbers e go ready.later journal ready c f came
   deed-well l ls s shown journal well ready c f came go (Gathers path from to show) e = gather-well l ls s shown path from to show e go ready.spelled ready.later journal ready.opened ready.owned c f came
+  deed-well l ls s shown journal well ready c f came go (Leases show) e = lease-well l ls s shown show e go journal ready c f came
   deed-well l ls s shown journal well ready c f came go (Commits message) e = commit-well l ls s shown message e journal (deed-utf8 l.number l.call s message well e) ready c f came
 
   lines-well : (ls : List Line) → All IsWellLine ls → AllGoWell ls
   unfolding PlayKeeps PlayLeads play_lines
-  lines-well [] well journal c f s shown ready came = ends-well by ids access Tried start [] s shown Done journal (refl, c)
+  lines-well [] well journal c f s shown ready came = ends-well by ids access Tried start [] s shown Done journal (refl, c, refl)
   lines-well (l ∷ ls) well journal c f s shown ready came =
       let played = deed-well l ls s shown journal (All-head IsWellLine l ls well).call ready c f came (lines-well ls (All-tail IsWellLine l ls well)) (deed l.number l.call s) refl in
       let off = starved l ls s shown journal c in
@@ -352,7 +460,7 @@ module _ (L : Laws) (by : Caller) (ids : AnyIds) (access : Access) (task : Task)
   Mine = IsOfTask ids task by.number start
 
   abbrev Outcomes : Outcome → List Event → Type 0
-  Outcomes = TellsBy (Session access) ids task by.number start
+  Outcomes outcome h = SessionTells ids access task by.number start outcome h × All (IsDrawnLease ids) outcome.shown
 
   abbrev TaskGoesWell : Play Outcome → List Event → Type 0
   TaskGoesWell p journal = PlayKeeps (Minds ids Mine start) by p journal × PlayLeads Outcomes by p journal
@@ -363,26 +471,32 @@ module _ (L : Laws) (by : Caller) (ids : AnyIds) (access : Access) (task : Task)
     pub early : HasPutNone by.number start begun.got.own.before
     pub opened : IsOpened s h
 
-  played : (s : SessionState) (outcome : Outcome) (journal : List Event) → Begun s journal → Ending by.number access start task.body s [] outcome journal → Outcomes outcome journal
-  played s outcome journal b e = inr (record {
-    opened = s;
-    begun = b.begun;
-    early = b.early;
-    read = b.opened;
-    played = e.played;
-    left = e.left;
-    body = e.body;
-    session = e.session;
-    plays = subst (λ (x : List Shown). PlaysAll by.number e.played s start x e.session journal) (sym e.shown_is) e.plays;
-    ends = e.ends;
-  })
+  played : (s : SessionState) (outcome : Outcome) (journal : List Event) → Begun s journal → Ending ids by.number access start task.body s [] outcome journal → Outcomes outcome journal
+  played s outcome journal b e = (
+    inr (record {
+      opened = s;
+      begun = b.begun;
+      early = b.early;
+      read = b.opened;
+      played = e.played;
+      left = e.left;
+      body = e.body;
+      session = e.session;
+      shown = e.more;
+      last = e.last;
+      shown_is = e.shown_is;
+      plays = e.plays;
+      ends = e.ends;
+    }),
+    subst (All (IsDrawnLease ids)) (sym e.shown_is) e.drawn,
+  )
 
   abbrev Answers : Result SessionState Refusal → List Event → Type 0
   Answers r h = (OpeningTells by.number (asked_by access ids) start r h × IfOk r IsSpelled) × (HasPutNone by.number start h × IfOk r (λ s. Owns ids by.number s start h))
 
   refused-task : (why : Refusal) (journal : List Event) → OpeningTells by.number (asked_by access ids) start (Err why) journal → TaskGoesWell (after_open access task.line task.body (Err why)) journal
   unfolding PlayKeeps PlayLeads
-  refused-task why journal q = (tt, inl (record { why = why; shown_is = refl; end_is = refl; tells = q }))
+  refused-task why journal q = (tt, (inl (record { why = why; shown_is = refl; end_is = refl; tells = q }), All-nil (IsDrawnLease ids)))
 
   opened-task : IsWellTask task → (r : Result SessionState Refusal) (journal : List Event) → Answers r journal → TaskGoesWell (after_open access task.line task.body r) journal
   opened-task well (Err why) journal q = refused-task why journal q.0.0
@@ -400,8 +514,8 @@ module _ (L : Laws) (by : Caller) (ids : AnyIds) (access : Access) (task : Task)
       let keeps = PlayKeeps-weaker (λ h client op. Begun s h × Minds ids tried start h client op) (Minds ids Mine start)
       (λ h client op k. (careful-more ids tried Mine h (λ t id x. of-task s h t id k.0 x) client op k.1.0, k.1.1)) by p journal
       (PlayKeeps-good (Begun s) lasts ids tried start by p journal lines.0 first) in
-      let carried = PlayLeads-carry (Begun s) lasts ids tried start by p journal (Ending by.number access start task.body s []) lines.0 first lines.1 in
-      (keeps, PlayLeads-weaker (λ outcome h. Begun s h × Ending by.number access start task.body s [] outcome h) Outcomes (λ outcome h x. played s outcome h x.0 x.1) by p journal carried)
+      let carried = PlayLeads-carry (Begun s) lasts ids tried start by p journal (Ending ids by.number access start task.body s []) lines.0 first lines.1 in
+      (keeps, PlayLeads-weaker (λ outcome h. Begun s h × Ending ids by.number access start task.body s [] outcome h) Outcomes (λ outcome h x. played s outcome h x.0 x.1) by p journal carried)
     where
       of-task : (s : SessionState) (h : List Event) (t : SessionState) (id : Id12) → Begun s h → IsTried task.body s by.number access start h t id → Mine h t id
       of-task s h t id b x = record { access = access; head_is = head_is; opened = s; begun = b.begun; early = b.early; read = b.opened; session = x.session; came = x.came; count = x.count; few = x.few; carried = x.carried; alike = x.alike; drawn = x.drawn }
@@ -440,13 +554,21 @@ module _ (L : Laws) (by : Caller) (ids : AnyIds) (task : Task) (start : List Eve
   by_head : (head : Head) → task.head ≡ head → GoesBy head
   by_head (Session access) is =
       let told = session-well L by ids access task start is well in
-      let p = headed_play (Session access) ids task in
+      let p = session_play ids access task.line task.body in
       let minds : List Event → ℕ → Op → Type 0 = λ h client op. IsCareful ids (IsOfTask ids task by.number start) h client op × OwesOwn ids client start op h in
       let opens : List Event → ℕ → Op → Type 0 = λ h client op. OpensOrHasBase client (asked_by access ids) start h op in
-      let both = PlayKeeps-both minds opens by p start told.0 (session-opens by ids access task.line task.body start) in (
-        PlayKeeps-own (λ h client op. minds h client op × opens h client op) (Pays (Session access)) by (λ h op c. (c.0.0.polite, (c.0.0.owes, (c.0.1, c.1)))) p start both,
-        told.1,
-        told.2,
+      let both = PlayKeeps-both minds opens by p start told.0 (session-opens by ids access task.line task.body start) in
+      let Told : Outcome → List Event → Type 0 = λ outcome h. Since start h × (SessionTells ids access task by.number start outcome h × All (IsDrawnLease ids) outcome.shown) in
+      let leads : PlayLeads Told by p start = PlayLeads-since (λ outcome h. SessionTells ids access task by.number start outcome h × All (IsDrawnLease ids) outcome.shown) by start p start (Since-none start) told.2 in (
+        PlayKeeps-followed (Pays (Session access)) Told by p release_all start
+            (PlayKeeps-own (λ h client op. minds h client op × opens h client op) (Pays (Session access)) by (λ h op c. (c.0.0.polite, (c.0.0.owes, (c.0.1, inl c.1)))) p start both) leads
+            (λ outcome h q. releases-keep (Pays (Session access)) by ids (λ j id drawn. (refl, ((drawn, refl), (tt, inr (id, refl))))) outcome.end [] outcome.shown q.1.1 h),
+        PlayKeeps-followed (λ h client op. ComesBefore (Session access) client start h op) Told by p release_all start told.1 leads
+            (λ outcome h q. releases-keep (λ j client op. ComesBefore (Session access) client start j op) by ids (λ j id drawn. λ put. absurd put) outcome.end [] outcome.shown q.1.1 h),
+        PlayLeads-followed (TellsBy (Session access) ids task by.number start) Told by p release_all start leads (λ outcome h q.
+            PlayLeads-weaker (λ o j. Since h j × HasReleased by.number outcome.end [] outcome.shown h o j) (TellsBy (Session access) ids task by.number start)
+            (λ o j r. record { session = outcome; ended = h; tells = q.1.0; since = r.0.more; is = r.0.is; released = subst (λ (x : List Shown). WereReleased by.number outcome.shown h x j) (sym r.1.shown_is) r.1.released; end_is = r.1.end_is }) by (release_all outcome) h
+            (PlayLeads-since (HasReleased by.number outcome.end [] outcome.shown h) by h (release_all outcome) h (Since-none h) (releases-lead L.leases by outcome.end [] outcome.shown h))),
       )
   by_head Refs is =
       let told = L.refs by task.body start in

@@ -160,6 +160,7 @@ module _ (L : SessionLaw) (O : OwningLaw) (ids : AnyIds) (client : ℕ) (start :
   deed-ready line (call.Edit change) s went journal well ready d = edits-ready change s went journal well ready d
   deed-ready line (call.Read look) s went journal well ready d = reads-ready line look s went journal ready d
   deed-ready line (call.Commit message) s went journal well ready d = absurd cc
+  deed-ready line call.Lease s went journal well ready d = absurd cc
   deed-ready line (call.Prop name value) s went journal well ready d = change-ready s went journal ready (prop_added s name value) (prop_added s name value) (prop-later s name value) (λ t e. (
     L.props s t name value journal (IsUtf8-from_is_utf8 name well.0) (IsUtf8-from_is_utf8 value well.1) e ready.spelled ready.opened,
     prop-owned ids client s t name value start journal (prop-added s t name value e) ready.owned,

@@ -13,17 +13,18 @@ use Rattle.store_api.specs.Program.{Prog, Done, Ask as Ask_next, bind, moves_bra
 use Rattle.store_api.specs.Running.{Program}
 use Rattle.store_api.specs.Plays.{Play, Ended, Ask, Or, behind, call, ended_as}
 use Rattle.store_api.specs.Telling.{IsGet}
-use Rattle.play_tasks.specs.Played.{PlaysTo, CommitsOnce, is_commit, is_moved}
+use Rattle.leases.specs.Following.{followed}
+use Rattle.play_tasks.specs.Played.{PlaysTo, CommitsOnce, IsGetOrRelease, is_commit, is_moved}
 use Rattle.play_tasks.proofs.Within.{Within}
 
 -- ---- plays
--- it makes gets alone
+-- it makes gets and releases of leases alone
 unfoldable pub OnlyGets : {A : Type 0} → Play A → Type 0
 OnlyGets (Ended a) = Unit {0}
-OnlyGets (Ask op starved next) = IsGet op × OnlyGets starved × ((reply : Reply) → OnlyGets (next reply))
+OnlyGets (Ask op starved next) = IsGetOrRelease op × OnlyGets starved × ((reply : Reply) → OnlyGets (next reply))
 OnlyGets (Or p q) = OnlyGets p × OnlyGets q
 
--- behind a commit that isn't found moved it makes gets alone
+-- behind a commit that isn't found moved it makes gets and releases of leases alone
 unfoldable pub Once : {A : Type 0} → Play A → Type 0
 Once (Ended a) = Unit {0}
 Once (Ask op starved next) = (is_commit op ≡ true → (reply : Reply) → is_moved reply ≡ false → OnlyGets (next reply)) × Once starved × ((reply : Reply) → Once (next reply))
@@ -47,11 +48,11 @@ gets-once (Ask op s next) g = (λ commits reply moved. g.2 reply, gets-once s g.
 gets-once (Or p q) g = (gets-once p g.0, gets-once q g.1)
 
 -- ---- their paths
-gets-path : {A : Type 0} (p : Play A) (events : List Event) (a : A) → OnlyGets p → PlaysTo p events a → All (λ (e : Event). IsGet e.op) events
+gets-path : {A : Type 0} (p : Play A) (events : List Event) (a : A) → OnlyGets p → PlaysTo p events a → All (λ (e : Event). IsGetOrRelease e.op) events
 unfolding OnlyGets PlaysTo
-gets-path (Ended b) events a g w = subst (λ (es : List Event). All (λ (e : Event). IsGet e.op) es) (sym w.0) (All-nil (λ (e : Event). IsGet e.op))
+gets-path (Ended b) events a g w = subst (λ (es : List Event). All (λ (e : Event). IsGetOrRelease e.op) es) (sym w.0) (All-nil (λ (e : Event). IsGetOrRelease e.op))
 gets-path (Ask op s next) [] a g (inl w) = absurd w
-gets-path (Ask op s next) (event ∷ more) a g (inl w) = All-cons (λ (e : Event). IsGet e.op) event more (subst IsGet (sym w.0) g.0) (gets-path (next event.reply) more a (g.2 event.reply) w.2)
+gets-path (Ask op s next) (event ∷ more) a g (inl w) = All-cons (λ (e : Event). IsGetOrRelease e.op) event more (subst IsGetOrRelease (sym w.0) g.0) (gets-path (next event.reply) more a (g.2 event.reply) w.2)
 gets-path (Ask op s next) events a g (inr w) = gets-path s events a g.1 w
 gets-path (Or p q) events a g (inl w) = gets-path p events a g.0 w
 gets-path (Or p q) events a g (inr w) = gets-path q events a g.1 w
@@ -84,11 +85,15 @@ unfolding Within
 weaker-within may might f Q R g (Done a) w = g a w
 weaker-within may might f Q R g (Ask_next op k) w = (f op w.0, λ reply. weaker-within may might f Q R g (k reply) (w.1 reply))
 
+pub get-or : (op : Op) → IsGet op → IsGetOrRelease op
+get-or (Get key) g = tt
+get-or _ g = absurd g
+
 -- of gets
 pub call-gets : {A B : Type 0} (Q : Result A Refusal → Type 0) (p : Program A) (f : Result A Refusal → Play B) → Within IsGet Q p → ((r : Result A Refusal) → OnlyGets (f r)) → OnlyGets (call p f)
 unfolding Within OnlyGets
 call-gets Q (Done r) f w g = g r
-call-gets Q (Ask_next op k) f w g = (w.0, g (Err NoMemory), λ reply. behind-gets op (call (k reply) f) (f (Err NoMemory)) (moves_branch op) refl (call-gets Q (k reply) f (w.1 reply) g) (g (Err NoMemory)))
+call-gets Q (Ask_next op k) f w g = (get-or op w.0, g (Err NoMemory), λ reply. behind-gets op (call (k reply) f) (f (Err NoMemory)) (moves_branch op) refl (call-gets Q (k reply) f (w.1 reply) g) (g (Err NoMemory)))
 
 -- of no commit
 pub call-once : {A B : Type 0} (Q : Result A Refusal → Type 0) (p : Program A) (f : Result A Refusal → Play B) → Within NoCommit Q p → ((r : Result A Refusal) → Q r → Once (f r)) → Once (f (Err NoMemory)) → Once (call p f)
@@ -123,3 +128,31 @@ unfolding Once
 as-once f (Ended a) o = tt
 as-once f (Ask op s next) o = (λ commits reply moved. as-gets f (next reply) (o.0 commits reply moved), as-once f s o.1, λ reply. as-once f (next reply) (o.2 reply))
 as-once f (Or p q) o = (as-once f p o.0, as-once f q o.1)
+
+-- ---- a play that another one follows
+-- whatever follows
+pub followed-gets : {A B : Type 0} (f : A → Play B) → ((a : A) → OnlyGets (f a)) → (p : Play A) → OnlyGets p → OnlyGets (followed p f)
+unfolding OnlyGets
+followed-gets f g (Ended a) o = g a
+followed-gets f g (Ask op s next) o = (o.0, followed-gets f g s o.1, λ reply. followed-gets f g (next reply) (o.2 reply))
+followed-gets f g (Or p q) o = (followed-gets f g p o.0, followed-gets f g q o.1)
+
+-- releases and gets follow
+pub followed-once : {A B : Type 0} (f : A → Play B) → ((a : A) → OnlyGets (f a)) → (p : Play A) → Once p → Once (followed p f)
+unfolding OnlyGets Once
+followed-once f g (Ended a) o = gets-once (f a) (g a)
+followed-once f g (Ask op s next) o = (λ commits reply moved. followed-gets f g (next reply) (o.0 commits reply moved), followed-once f g s o.1, λ reply. followed-once f g (next reply) (o.2 reply))
+followed-once f g (Or p q) o = (followed-once f g p o.0, followed-once f g q o.1)
+
+-- it commits nothing
+unfoldable pub NoCommits : {A : Type 0} → Play A → Type 0
+NoCommits (Ended a) = Unit {0}
+NoCommits (Ask op s next) = NoCommit op × NoCommits s × ((reply : Reply) → NoCommits (next reply))
+NoCommits (Or p q) = NoCommits p × NoCommits q
+
+-- whatever follows what commits nothing
+pub nothing-once : {A B : Type 0} (f : A → Play B) → ((a : A) → Once (f a)) → (p : Play A) → NoCommits p → Once (followed p f)
+unfolding NoCommits Once
+nothing-once f g (Ended a) n = g a
+nothing-once f g (Ask op s next) n = (none-once op n.0, nothing-once f g s n.1, λ reply. nothing-once f g (next reply) (n.2 reply))
+nothing-once f g (Or p q) n = (nothing-once f g p n.0, nothing-once f g q n.1)

@@ -114,7 +114,7 @@ module _ (L : Laws) (by : Caller) (ids : AnyIds) (access : Access) (body : List 
     tried : (count : ℕ) (t : SessionState) (end : End) (journal : List Event) → count ≤ tries_of access → WasCarried by.number policy count s t start journal → Ends count t end journal → Well (ended shown end) journal
     tried count t end journal few c e =
         ends-well by ids access Mine start (l ∷ ls) s shown end journal
-        (inr (inr (record { message = message; commits = commits; count = count; few = few; at_last = t; carried = c; ends = e })))
+        (inr (inr (record { quiet = refl; message = message; commits = commits; count = count; few = few; at_last = t; carried = c; ends = e })))
 
     starved : (journal : List Event) → Nothing journal → Well (refused l.number shown NoMemory) journal
     starved journal c = starved-well by ids access Mine start l ls s shown journal c
@@ -181,7 +181,7 @@ module _ (L : Laws) (by : Caller) (ids : AnyIds) (access : Access) (body : List 
             let stays = law.gets (branch_of t) doubt h h (MadeGets-none by.number h) in
             let N = MadeGets by.number h in (
               PlayKeeps-call (Minds ids Mine start) Tells N by p f h minds leads stays (λ answer journal q. (told answer journal q).0) (λ journal n. (told (Err NoMemory) journal (tt, n)).0),
-              PlayLeads-call (Ending by.number access start (l ∷ ls) s shown) Tells N by p f h leads stays (λ answer journal q. (told answer journal q).1) (λ journal n. (told (Err NoMemory) journal (tt, n)).1),
+              PlayLeads-call (Ending ids by.number access start (l ∷ ls) s shown) Tells N by p f h leads stays (λ answer journal q. (told answer journal q).1) (λ journal n. (told (Err NoMemory) journal (tt, n)).1),
             )
 
       -- ---- it was refused

@@ -64,7 +64,7 @@ use Rattle.rebase.specs.declared.machine.Rebased.{Rebased}
 use Rattle.rebase.specs.declared.machine.Rebased.TheVariants.{OnHead, UpToDate}
 use Rattle.rebase.specs.Along.{Link, left_at, solved_at, first_hidden}
 use Rattle.rebase.specs.Rebasing.{Commits, head_of, walk_down, if_solved, solve_link, solve_program, on_head, over_commits, after_ref}
-use Rattle.play_tasks.specs.Bases.{GetsBranch, GetsWalked}
+use Rattle.play_tasks.specs.Bases.{GetsBranch, GetsWalked, LeasesAlone, LeasesBase}
 
 -- each operation of the program may be made, and each of its answers is so
 unfoldable pub Within : {A : Type 0} → (Op → Type 0) → (A → Type 0) → Prog A → Type 0
@@ -75,9 +75,9 @@ Within may Q (Ask op next) = may op × ((reply : Reply) → Within may Q (next r
 abbrev pub WithinOk : {A : Type 0} → (Op → Type 0) → (A → Type 0) → Program A → Type 0
 WithinOk may Q p = Within may (λ r. IfOk r Q) p
 
--- it gets no branch
+-- it gets no branch, and puts no lease
 abbrev pub Still : Op → Type 0
-Still op = ¬ GetsBranch op
+Still op = ¬ GetsBranch op × ((base : Id12) → LeasesBase base op)
 
 -- it gets a snapshot or a log
 abbrev pub Climbs : Op → Type 0
@@ -130,8 +130,8 @@ Any v = Unit {0}
 abbrev pub Wrote : Written → Type 0
 Wrote w = Unit {0}
 
--- any operation that gets what is no branch, or puts something new
-module _ (may : Op → Type 0) (gets : (key : Key) → is_branch key ≡ false → may (Get key)) (puts : (key : Key) (bytes : List ℕ) (why : Why) → may (PutNew key bytes why)) where
+-- any operation that gets what is no branch, or puts something new that is no lease
+module _ (may : Op → Type 0) (gets : (key : Key) → is_branch key ≡ false → may (Get key)) (puts : (key : Key) (bytes : List ℕ) (why : Why) → ((base : Id12) → LeasesAlone base key bytes) → may (PutNew key bytes why)) where
   object-within : (s t : SessionState) (id : Id12) → IsSame s t → (reply : Reply) → WithinOk may (IsSame s) (after_object t id reply)
   unfolding Within
   object-within s t id same (Is_new (New_done version now)) = same
@@ -146,7 +146,7 @@ module _ (may : Op → Type 0) (gets : (key : Key) → is_branch key ≡ false �
   put-within : (s : SessionState) (path index bytes : List ℕ) (o : Option Id12) → WithinOk may (IsSame s) (put_object s path index bytes o)
   unfolding Within
   put-within s path index bytes None = tt
-  put-within s path index bytes (Some id) = (puts (Chunk id) bytes Set, object-within s (with_chunk (after_draw s) path index (Object id 0 (length bytes))) id (record { base = refl; origin = refl }))
+  put-within s path index bytes (Some id) = (puts (Chunk id) bytes Set (λ base. tt), object-within s (with_chunk (after_draw s) path index (Object id 0 (length bytes))) id (record { base = refl; origin = refl }))
 
   fault-within : (s : SessionState) (o : Option EditFault) (p : Program SessionState) → WithinOk may (IsSame s) p → WithinOk may (IsSame s) (unless_fault o p)
   unfolding Within
@@ -223,7 +223,7 @@ module _ (may : Op → Type 0) (gets : (key : Key) → is_branch key ≡ false �
 
   manifest_put-within : (w : Written) (a : ChangedArray) (array : ArrayRefs) (id : Id12) → WithinOk may Wrote (Ask (PutNew (Manifest id) (file_bytes (manifest_for id array)) Set) (after_manifest (with_manifest w a array id) id))
   unfolding Within
-  manifest_put-within w a array id = (puts (Manifest id) (file_bytes (manifest_for id array)) Set, manifest_told-within (with_manifest w a array id) id)
+  manifest_put-within w a array id = (puts (Manifest id) (file_bytes (manifest_for id array)) Set (λ base. tt), manifest_told-within (with_manifest w a array id) id)
 
   manifest-within : (w : Written) (a : ChangedArray) (array : ArrayRefs) (o : Option Id12) → WithinOk may Wrote (put_manifest w a array o)
   manifest-within w a array None = refused-within may Wrote _
@@ -243,10 +243,10 @@ module _ (may : Op → Type 0) (gets : (key : Key) → is_branch key ≡ false �
 
 -- ---- a commit gets no branch
 pub still-gets : (key : Key) → is_branch key ≡ false → Still (Get key)
-still-gets key e g = cc
+still-gets key e = (λ g. cc, λ base. tt)
 
-pub still-puts : (key : Key) (bytes : List ℕ) (why : Why) → Still (PutNew key bytes why)
-still-puts key bytes why g = g
+pub still-puts : (key : Key) (bytes : List ℕ) (why : Why) → ((base : Id12) → LeasesAlone base key bytes) → Still (PutNew key bytes why)
+still-puts key bytes why leases = (λ g. g, leases)
 
 abbrev Tries : Tried → Type 0
 Tries t = Unit {0}
@@ -264,7 +264,7 @@ branch-within s id next (Failed done) = tt
 
 snapshot-within : (s : SessionState) (id : Id12) (next : AnyIds) (reply : Reply) → WithinOk Still Tries (after_snapshot s id next reply)
 unfolding Within
-snapshot-within s id next (Is_new (New_done version now)) = (λ g. g, branch-within s id next)
+snapshot-within s id next (Is_new (New_done version now)) = ((λ g. g, λ base. tt), branch-within s id next)
 snapshot-within s id next (Is_new (Present version now)) = tt
 snapshot-within s id next (Is_got x) = tt
 snapshot-within s id next (Is_over x) = tt
@@ -275,7 +275,7 @@ snapshot-within s id next (Failed done) = tt
 
 snapshot_asked-within : (s : SessionState) (id : Id12) (next : AnyIds) (file : List ℕ) → WithinOk Still Tries (Ask (PutNew (Snapshot id) file Set) (after_snapshot s id next))
 unfolding Within
-snapshot_asked-within s id next file = (λ g. g, snapshot-within s id next)
+snapshot_asked-within s id next file = ((λ g. g, λ base. tt), snapshot-within s id next)
 
 snapshot_put-within : (s : SessionState) (id : Id12) (next : AnyIds) (file : List ℕ) → WithinOk Still Tries (put_snapshot s id next file)
 snapshot_put-within s id next file = either-within Still Tries (is_long file) _ _ (λ long. refused-within Still Tries _) (λ fits. snapshot_asked-within s id next file)
@@ -293,7 +293,7 @@ log-within s message news id next (Failed done) = tt
 
 log_asked-within : (s : SessionState) (message : List ℕ) (news : List NewList) (id : Id12) (next : AnyIds) → WithinOk Still Tries (Ask (PutNew (Txn id) (log_file (log_for s id)) Set) (after_log s message news id next))
 unfolding Within
-log_asked-within s message news id next = (λ g. g, log-within s message news id next)
+log_asked-within s message news id next = ((λ g. g, λ base. tt), log-within s message news id next)
 
 log_put-within : (s : SessionState) (message : List ℕ) (news : List NewList) (o : Option Id12) (next : AnyIds) → WithinOk Still Tries (put_log s message news o next)
 log_put-within s message news None next = refused-within Still Tries _

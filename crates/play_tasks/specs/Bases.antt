@@ -3,12 +3,16 @@ use Rattle.std.specs.Prelude.{◌≡◌, ◌⊎◌, ℕ, Bool, List, [], ◌∷�
 use Rattle.ice_ids.specs.declared.Id12.{Id12}
 use Rattle.ice_ids.specs.declared.drawing.AnyIds.{AnyIds}
 use Rattle.snapshot_file.specs.declared.snapshot.SnapshotFile.{SnapshotFile}
+use Rattle.ref_file.specs.Refs.{ref_bytes}
 use Rattle.repo_objects.specs.Readings.{ref_of, snapshot_by}
 use Rattle.object_store.specs.declared.keys.Key.{Key}
 use Rattle.object_store.specs.declared.keys.Key.TheVariants.{Snapshot, Manifest, Txn, Chunk, Branch, Tag, Tombstone, Lease}
+use Rattle.object_store.specs.declared.keys.Why.TheVariants.{Lease as For_lease}
 use Rattle.object_store.specs.declared.events.Op.{Op}
 use Rattle.object_store.specs.declared.events.Op.TheVariants.{Get, PutNew, PutOver, Remove, RemoveAt, List as ListPart}
 use Rattle.object_store.specs.declared.events.Reply.{Reply}
+use Rattle.object_store.specs.declared.events.Reply.TheVariants.{Got}
+use Rattle.object_store.specs.declared.events.Got.TheVariants.{Found}
 use Rattle.object_store.specs.declared.events.Event.{Event}
 use Rattle.object_store.specs.Machine.{version_at}
 use Rattle.store_api.specs.Journal.{Each}
@@ -88,11 +92,22 @@ pub record MadeAlone (may : Op → Type 0) (client : ℕ) (start journal : List 
   pub is : journal ≡ start ++ more
   pub each : Each (λ before event. event.client ≡ client → may event.op) start more
 
--- The session is being rebased, or its commit is in doubt and is being settled: until here the client got no branch since the base was named, and from
--- here on it got a branch, snapshots and logs alone.
-pub record IsRebasing (client : ℕ) (since journal : List Event) : Type 0 where
+-- a get found what stood at this version
+abbrev pub FoundAt : ℕ → Reply → Type 0
+FoundAt version (Got (Found bytes there now)) = there.0 ≡ version
+FoundAt version _ = ⊥
+
+-- From `start` on, each get of a branch by the client found it at this version still.
+pub record NoneNewer (version client : ℕ) (start journal : List Event) : Type 0 where
+  pub more : List Event
+  pub is : journal ≡ start ++ more
+  pub each : Each (λ before event. event.client ≡ client → GetsBranch event.op → FoundAt version event.reply) start more
+
+-- The session is being rebased, or its commit is in doubt and is being settled: until here the client found the branch at no other version since the base
+-- was named, and from here on it got a branch, snapshots and logs alone.
+pub record IsRebasing (version client : ℕ) (since journal : List Event) : Type 0 where
   pub lost : List Event
-  pub none : MadeAlone (λ op. ¬ GetsBranch op) client since lost
+  pub none : NoneNewer version client since lost
   pub walks : MadeAlone GetsWalked client lost journal
 
 -- ---- a session's base
@@ -102,23 +117,50 @@ pub record HasAsked (client : ℕ) (at : At) (start journal : List Event) : Type
   pub own : HasOwn client (Get (key_of at)) reply start journal
   pub first : MadeAlone (λ op. ⊥) client start own.before
 
--- The client has a session open, since its first operation, and this is the base: what the client's own last read of the session's branch named; or while
--- a rebase or a settling reads the branch anew, and what stands above the base, what the read before that named. Behind the rebase the base is the branch's snapshot.
+-- The client has a session open, since its first operation, and this is the base: what the client's own read of the session's branch named, and it found it at no
+-- other version since; or while a rebase or a settling reads the branch anew, and what stands above the base, what the read before that named. Behind the rebase
+-- the base is the branch's snapshot.
 pub record HasBase (client : ℕ) (a : Asked) (start journal : List Event) : Type 0 where
   pub asked : HasAsked client a.at start journal
   pub base : Id12
   pub origin : Origin
   pub of_asked : IsAskedFor a.at a.writes origin base
   pub named : WasNamed client origin base start journal
-  pub last : MadeAlone (λ op. ¬ GetsBranch op) client (named.got.own.before ++ named.got.own.event ∷ []) journal ⊎ IsRebasing client (named.got.own.before ++ named.got.own.event ∷ []) journal
+  pub last : NoneNewer named.version client (named.got.own.before ++ named.got.own.event ∷ []) journal
+      ⊎ IsRebasing named.version client (named.got.own.before ++ named.got.own.event ∷ []) journal
 
--- an operation of the client of such a session: the first one, a get of what is asked for; or it comes where the session has a base
+-- what is put at the key of a lease is a reference to this snapshot
+abbrev pub LeasesAlone : Id12 → Key → List ℕ → Type 0
+LeasesAlone base (Lease id) bytes = bytes ≡ ref_bytes base
+LeasesAlone base (Snapshot id) bytes = Unit {0}
+LeasesAlone base (Manifest id) bytes = Unit {0}
+LeasesAlone base (Txn id) bytes = Unit {0}
+LeasesAlone base (Chunk id) bytes = Unit {0}
+LeasesAlone base (Branch name) bytes = Unit {0}
+LeasesAlone base (Tag name) bytes = Unit {0}
+LeasesAlone base (Tombstone name) bytes = Unit {0}
+
+-- a lease that the operation puts is one of this snapshot
+abbrev pub LeasesBase : Id12 → Op → Type 0
+LeasesBase base (PutNew key bytes why) = LeasesAlone base key bytes
+LeasesBase base (Get key) = Unit {0}
+LeasesBase base (PutOver key bytes old why) = Unit {0}
+LeasesBase base (Remove key why) = Unit {0}
+LeasesBase base (RemoveAt key old why) = Unit {0}
+LeasesBase base (ListPart part) = Unit {0}
+
+-- an operation of the client of such a session: the first one, a get of what is asked for; or it comes where the session has a base, and leases no other
 abbrev pub OpensOrHasBase : ℕ → Asked → List Event → List Event → Op → Type 0
-OpensOrHasBase client a start journal op = (MadeAlone (λ o. ⊥) client start journal × (op ≡ Get (key_of a.at))) ⊎ HasBase client a start journal
+OpensOrHasBase client a start journal op =
+    (MadeAlone (λ o. ⊥) client start journal × (op ≡ Get (key_of a.at))) ⊎ ((has : HasBase client a start journal) × LeasesBase has.base op)
 
--- so is each of a task that opens a session
+-- the release of a lease
+abbrev pub IsRelease : Op → Type 0
+IsRelease op = (id : Id12) × (op ≡ Remove (Lease id) For_lease)
+
+-- so is each of a task that opens a session, but for the releases of its leases
 abbrev pub ComesOpen : Head → AnyIds → (client : ℕ) → (start journal : List Event) → Op → Type 0
-ComesOpen (Session access) ids client start journal op = OpensOrHasBase client (asked_by access ids) start journal op
+ComesOpen (Session access) ids client start journal op = OpensOrHasBase client (asked_by access ids) start journal op ⊎ IsRelease op
 ComesOpen Refs ids client start journal op = Unit {0}
 ComesOpen (Collect cutoff) ids client start journal op = Unit {0}
 ComesOpen (Expire cutoff drop_branches drop_tags) ids client start journal op = Unit {0}

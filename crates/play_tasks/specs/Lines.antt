@@ -1,6 +1,7 @@
 -- What a line of a task does to its session. Its play, what it shows, what refuses it and which session it leads to are all read from here.
 use Rattle.std.specs.Prelude.{ℕ, ℤ, List, [], ◌∷◌, map, replicate, Option, Some, None, Result, Ok, Err}
 use Rattle.std.specs.FinMap.{get}
+use Rattle.ice_ids.specs.declared.Id12.{Id12}
 use Rattle.zarr_path.specs.declared.keys.ZarrKey.{ZarrKey}
 use Rattle.zarr_path.specs.declared.keys.ZarrKey.TheVariants.{Meta as Meta_key, Chunk as Chunk_key}
 use Rattle.zarr_path.specs.Keys.{key_of}
@@ -19,13 +20,13 @@ use Rattle.zarr_keys.specs.declared.values.KeyValue.{KeyValue}
 use Rattle.zarr_keys.specs.declared.values.KeyValue.TheVariants.{Bytes, Absent}
 use Rattle.zarr_keys.specs.Keys.{meta_value, chunk_value, session_of, meta_put, key_erased}
 use Rattle.script_calls.specs.declared.calls.Call.{Call}
-use Rattle.script_calls.specs.declared.calls.Call.TheVariants.{Edit, Read, Commit, Ref, Prop}
+use Rattle.script_calls.specs.declared.calls.Call.TheVariants.{Edit, Read, Commit, Ref, Prop, Lease}
 use Rattle.script_calls.specs.declared.calls.EditCall.{EditCall}
 use Rattle.script_calls.specs.declared.calls.EditCall.TheVariants.{Group, Array, Make, Meta, Drop, Set, Fill as Fill_call, Unset, Put, KeySet, KeyErase}
 use Rattle.script_calls.specs.declared.calls.ReadCall.{ReadCall}
 use Rattle.script_calls.specs.declared.calls.ReadCall.TheVariants.{List as List_call, Get, Chunk, Cells, KeyGet}
 use Rattle.play_outcome.specs.declared.outcome.Shown.{Shown}
-use Rattle.play_outcome.specs.declared.outcome.Shown.TheVariants.{Node as Shown_node, Meta as Shown_meta, Chunk as Shown_chunk, Fill as Shown_fill, Cells as Shown_cells, Key as Shown_key}
+use Rattle.play_outcome.specs.declared.outcome.Shown.TheVariants.{Node as Shown_node, Meta as Shown_meta, Chunk as Shown_chunk, Fill as Shown_fill, Cells as Shown_cells, Key as Shown_key, Lease as Shown_lease}
 
 -- ---- edits
 -- the session behind an edit that needs no operation, or why it is refused; a text that is made a node is a group's or an array's, as it
@@ -78,15 +79,22 @@ key_shown line Absent = Shown_key line None
 abbrev pub chunk_key_shown : ℕ → Value → Shown
 chunk_key_shown line value = key_shown line (chunk_value value)
 
+-- ---- leases
+-- a lease that this line of the script put, or may have put
+abbrev pub lease_shown : ℕ → Id12 → Shown
+lease_shown line id = Shown_lease line id None
+
 -- ---- lines
 -- what a line does: it shows something and leads to a session, or is refused; it sets the bytes of a chunk; it reads a chunk and shows it so; it puts
--- numbers into a box of cells; it gathers those of a box and shows them so; or it commits, with this message
+-- numbers into a box of cells; it gathers those of a box and shows them so; it leases the session's base, and shows that so; or it commits, with this
+-- message
 pub data Deed : Type 0 where
   Goes : Result (List Shown × SessionState) Refusal → Deed
   Sets : (path index bytes : List ℕ) → Deed
   Reads : (path index : List ℕ) → (Value → Shown) → Deed
   Puts : (path from to : List ℕ) → List ℤ → Deed
   Gathers : (path from to : List ℕ) → (List ℤ → Shown) → Deed
+  Leases : (Id12 → Shown) → Deed
   Commits : List ℕ → Deed
 
 -- an edit shows nothing
@@ -145,3 +153,4 @@ deed line (Read read) s = read_deed line read s
 deed line (Commit message) s = Commits message
 deed line (Ref call) s = Goes (Ok ([], s))
 deed line (Prop name value) s = Goes (silent (prop_added s name value))
+deed line Lease s = Leases (lease_shown line)

@@ -11,7 +11,8 @@ use Rattle.object_store.specs.declared.events.Reply.TheVariants.{Over as Is_over
 use Rattle.object_store.specs.declared.events.Event.{Event}
 use Rattle.store_api.specs.Callers.{Fits}
 use Rattle.store_api.specs.Program.{events_of}
-use Rattle.store_api.specs.Telling.{IsGet}
+use Rattle.object_store.specs.declared.keys.Key.{Key}
+use Rattle.object_store.specs.declared.keys.Key.TheVariants.{Snapshot, Manifest, Txn, Chunk, Branch, Tag, Tombstone, Lease}
 use Rattle.store_api.specs.Plays.{Play, Ended, Ask, Or}
 use Rattle.play_script.specs.declared.scripts.Task.{Task}
 use Rattle.play_outcome.specs.declared.outcome.Outcome.{Outcome}
@@ -58,10 +59,31 @@ abbrev pub is_moved : Reply → Bool
 is_moved (Is_over (Moved there now)) = true
 is_moved _ = false
 
--- At most one of these operations is a commit that was done, or may have been: behind one that wasn't found moved there are gets alone.
+-- a lease that is released
+abbrev pub IsLeaseGone : Key → Why → Type 0
+IsLeaseGone (Lease id) why = why ≡ For.Lease
+IsLeaseGone (Snapshot id) why = ⊥
+IsLeaseGone (Manifest id) why = ⊥
+IsLeaseGone (Txn id) why = ⊥
+IsLeaseGone (Chunk id) why = ⊥
+IsLeaseGone (Branch name) why = ⊥
+IsLeaseGone (Tag name) why = ⊥
+IsLeaseGone (Tombstone name) why = ⊥
+
+-- a get, or the release of a lease
+abbrev pub IsGetOrRelease : Op → Type 0
+IsGetOrRelease (Get key) = Unit {0}
+IsGetOrRelease (PutNew key bytes why) = ⊥
+IsGetOrRelease (PutOver key bytes old why) = ⊥
+IsGetOrRelease (Remove key why) = IsLeaseGone key why
+IsGetOrRelease (RemoveAt key old why) = ⊥
+IsGetOrRelease (ListPart part) = ⊥
+
+-- At most one of these operations is a commit that was done, or may have been: behind one that wasn't found moved there are gets and releases of leases
+-- alone.
 abbrev pub CommitsOnce : List Event → Type 0
 CommitsOnce [] = Unit {0}
-CommitsOnce (event ∷ more) = (is_commit event.op ≡ true → is_moved event.reply ≡ false → All (λ e. IsGet e.op) more) × CommitsOnce more
+CommitsOnce (event ∷ more) = (is_commit event.op ≡ true → is_moved event.reply ≡ false → All (λ e. IsGetOrRelease e.op) more) × CommitsOnce more
 
 -- ---- tasks
 -- the event's client is a task's

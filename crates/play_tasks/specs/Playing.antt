@@ -1,6 +1,6 @@
 -- The play of a task: it opens a session, plays the body's lines on it, and commits, or it calls on refs, or collects, or expires. Where memory is wanting, it ends
 -- there, and still shows what its lines showed before. (Own.)
-use Rattle.std.specs.Prelude.{ℕ, zero, suc, List, [], ◌∷◌, ◌++◌, true, false, Option, Result, Ok, Err}
+use Rattle.std.specs.Prelude.{ℕ, zero, suc, List, [], ◌∷◌, ◌++◌, true, false, Option, Some, None, Result, Ok, Err}
 use Rattle.ice_ids.specs.declared.Id12.{Id12}
 use Rattle.ice_ids.specs.declared.drawing.AnyIds.{AnyIds}
 use Rattle.store_api.specs.declared.machines.Refusal.{Refusal}
@@ -9,7 +9,11 @@ use Rattle.store_api.specs.declared.machines.Refusal.TheVariants as R
 use Rattle.store_api.specs.Plays.{Play, Or, call}
 use Rattle.session.specs.Sessions.{SessionState, branch_of}
 use Rattle.session.specs.Opening.{Asked, open_program}
-use Rattle.session.specs.Chunks.{set_program, get_program}
+use Rattle.session.specs.Chunks.{after_draw, set_program, get_program}
+use Rattle.leases.specs.declared.lease.Leased.{Leased}
+use Rattle.leases.specs.Plays.{release_play}
+use Rattle.leases.specs.Starting.{lease_of}
+use Rattle.leases.specs.Following.{followed}
 use Rattle.array_region.specs.Reading.{region_program}
 use Rattle.array_region.specs.Writing.{region_set_program}
 use Rattle.conflicts.specs.declared.solving.Policy.{Policy}
@@ -37,12 +41,14 @@ use Rattle.play_collect.specs.Playing.{collect_task}
 use Rattle.play_expire.specs.Playing.{terms_of, expire_task}
 use Rattle.play_check.specs.Playing.{check_task}
 use Rattle.play_outcome.specs.declared.outcome.Shown.{Shown}
+use Rattle.play_outcome.specs.declared.outcome.Shown.TheVariants.{Lease}
+use Rattle.play_outcome.specs.declared.outcome.End.{End}
 use Rattle.play_outcome.specs.declared.outcome.How.{How}
 use Rattle.play_outcome.specs.declared.outcome.How.TheVariants as how
 use Rattle.play_outcome.specs.declared.outcome.End.TheVariants.{Committed, Done, InDoubt}
 use Rattle.play_outcome.specs.declared.outcome.Outcome.{Outcome}
 use Rattle.play_outcome.specs.Playing.{ended, refused}
-use Rattle.play_tasks.specs.Lines.{Deed, Goes, Sets, Reads, Puts, Gathers, Commits, silent, deed}
+use Rattle.play_tasks.specs.Lines.{Deed, Goes, Sets, Reads, Puts, Gathers, Leases, Commits, silent, deed}
 
 -- what is played on a session once these lines were shown
 abbrev pub Rest : Type 0
@@ -102,6 +108,25 @@ abbrev pub policy_of : Access → Policy
 policy_of (Write branch tries policy) = policy
 policy_of (Read at) = record { chunks = Fail; drop_arrays = false; drop_groups = false }
 
+-- ---- leases
+-- a lease that may stand is shown
+abbrev pub placed_shown : (Id12 → Shown) → Option Id12 → List Shown
+placed_shown show None = []
+placed_shown show (Some id) = show id ∷ []
+
+-- a lease that was confirmed lets the lines go on, and another one ends the task
+abbrev pub after_confirm : ℕ → List Shown → SessionState → Rest → Result (Unit {0}) Refusal → Play Outcome
+after_confirm line shown s rest (Ok done) = rest s shown
+after_confirm line shown s rest (Err why) = refused line shown why
+
+abbrev pub after_lease : (Id12 → Shown) → ℕ → List Shown → SessionState → Rest → Leased → Play Outcome
+after_lease show line shown s rest l = after_confirm line (shown ++ placed_shown show l.placed) s rest l.result
+
+-- it begins, on the session that has drawn its id, or is refused
+abbrev pub lease_by : (Id12 → Shown) → ℕ → List Shown → SessionState → Rest → Result (Play Leased) Refusal → Play Outcome
+lease_by show line shown s rest (Ok p) = followed p (after_lease show line shown (after_draw s) rest)
+lease_by show line shown s rest (Err why) = refused line shown why
+
 -- ---- lines
 
 -- what was read, a chunk or a box, is shown, and the session stays
@@ -116,6 +141,7 @@ play_deed access line shown s (Sets path index bytes) rest = call (set_program s
 play_deed access line shown s (Reads path index show) rest = call (get_program s path index) (λ answer. after_line line shown (shown_by s show answer) rest)
 play_deed access line shown s (Puts path from to numbers) rest = call (region_set_program s path from to numbers) (λ answer. after_line line shown (silent answer) rest)
 play_deed access line shown s (Gathers path from to show) rest = call (region_program s path from to) (λ answer. after_line line shown (shown_by s show answer) rest)
+play_deed access line shown s (Leases show) rest = lease_by show line shown s rest (lease_of s)
 play_deed access line shown s (Commits message) rest = commit_play (tries_of access) (policy_of access) line shown message s
 
 -- the lines in their order, the first that is refused being the last; where memory is wanting, the task ends in this line
@@ -136,9 +162,28 @@ asked_by (Read at) ids = record { at = at; writes = false; ids = ids }
 abbrev pub session_play : AnyIds → Access → (line : ℕ) → (body : List Line) → Play Outcome
 session_play ids access line body = call (open_program (asked_by access ids)) (after_open access line body)
 
+-- ---- releases
+-- what the release of a lease was answered, where the lease is shown
+abbrev pub left_by : Result (Unit {0}) Refusal → Option Refusal
+left_by (Ok done) = None
+left_by (Err why) = Some why
+
+-- The leases that are shown are released, one after another, whatever comes of each: behind `done`, where that was so, those of `left`.
+abbrev pub release_from : (done left : List Shown) → End → Play Outcome
+release_from done [] end = ended done end
+release_from done (Lease line id left ∷ more) end = followed (release_play id) (λ result. release_from (done ++ Lease line id (left_by result) ∷ []) more end)
+release_from done (shown ∷ more) end = release_from (done ++ shown ∷ []) more end
+
+abbrev pub release_all : Outcome → Play Outcome
+release_all outcome = release_from [] outcome.shown outcome.end
+
+-- a session, and then the releases of its leases, however it ended
+abbrev pub released_play : AnyIds → Access → (line : ℕ) → (body : List Line) → Play Outcome
+released_play ids access line body = followed (session_play ids access line body) release_all
+
 -- ---- tasks
 abbrev pub headed_play : Head → AnyIds → Task → Play Outcome
-headed_play (Session access) ids t = session_play ids access t.line t.body
+headed_play (Session access) ids t = released_play ids access t.line t.body
 headed_play Refs ids t = refs_play t.body []
 headed_play (Collect cutoff) ids t = collect_task t.line cutoff
 headed_play (Expire cutoff drop_branches drop_tags) ids t = expire_task t.line (terms_of cutoff drop_branches drop_tags)

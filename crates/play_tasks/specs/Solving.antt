@@ -1,16 +1,21 @@
 -- The sessions of a task at their commits.
-use Rattle.std.specs.Prelude.{◌≡◌, ◌⊎◌, ℕ, zero, suc, ◌≤◌, ℤ, List, [], ◌∷◌, ◌++◌, Option, Ok}
+use Rattle.std.specs.Prelude.{◌≡◌, ◌⊎◌, ℕ, zero, suc, ◌≤◌, ℤ, List, [], ◌∷◌, ◌++◌, Option, Some, Ok}
 use Rattle.ice_ids.specs.declared.Id12.{Id12}
 use Rattle.ice_ids.specs.declared.drawing.AnyIds.{AnyIds}
+use Rattle.ice_ids.specs.Drawing.{drawn12}
 use Rattle.conflicts.specs.declared.solving.Policy.{Policy}
 use Rattle.session.specs.declared.chunks.Value.{Value}
 use Rattle.session.specs.Sessions.{SessionState}
 use Rattle.session.specs.Sources.{MayDrawObject}
+use Rattle.session.specs.Chunks.{after_draw}
 use Rattle.object_store.specs.declared.events.Version.{Version}
 use Rattle.object_store.specs.declared.events.Event.{Event}
 use Rattle.chunk_calls.specs.Told.{WasSet, IsChunk}
 use Rattle.region_calls.specs.Told.{AreCells}
 use Rattle.region_calls.specs.Written.{WasWritten}
+use Rattle.leases.specs.declared.witness.Witness.{Witness}
+use Rattle.leases.specs.Plays.{witness_of}
+use Rattle.leases.specs.Telling.{WasLeased}
 use Rattle.commit_path.specs.Answered.{WasMoved}
 use Rattle.commit_path.specs.Opened.{IsOpened, WasBegun}
 use Rattle.commit_path.specs.Single.{HasPutNone, HasPutAlike}
@@ -20,8 +25,24 @@ use Rattle.script_calls.specs.declared.calls.Head.TheVariants.{Session}
 use Rattle.play_script.specs.declared.scripts.Line.{Line}
 use Rattle.play_script.specs.declared.scripts.Task.{Task}
 use Rattle.play_outcome.specs.declared.outcome.Shown.{Shown}
-use Rattle.play_tasks.specs.Lines.{Deed, Goes, Sets, Reads, Puts, Gathers, Commits, deed}
+use Rattle.play_tasks.specs.Lines.{Deed, Goes, Sets, Reads, Puts, Gathers, Leases, Commits, deed}
 use Rattle.play_tasks.specs.Playing.{asked_by, tries_of, policy_of}
+
+-- ---- leases
+-- The session's base was leased: under the next id that the session drew the client's own put made the lease, and behind that the ref that had named
+-- the base confirmed it. That is shown so.
+pub record DidLease (client : ℕ) (show : Id12 → Shown) (s : SessionState) (start : List Event) (shown : List Shown) (t : SessionState) (journal : List Event) : Type 0 where
+  pub id : Id12
+  pub drawn : drawn12 s.ids ≡ Some id
+  pub witness : Witness
+  pub witness_is : witness_of s.origin ≡ Some witness
+  pub since : List Event
+  pub until : List Event
+  pub more : List Event
+  pub is : journal ≡ (start ++ since ++ until) ++ more
+  pub leased : WasLeased client id s.base witness (start ++ since) (start ++ since ++ until)
+  pub shown_is : shown ≡ show id ∷ []
+  pub becomes : t ≡ after_draw s
 
 -- ---- as the lines lead to it
 -- a line that does this was played on a session: what it showed, and the session that it led to
@@ -31,6 +52,7 @@ DidPlay client (Sets path index bytes) s start shown t journal = (shown ≡ []) 
 DidPlay client (Reads path index show) s start shown t journal = (t ≡ s) × (value : Value) × (shown ≡ show value ∷ []) × IsChunk s path index value journal
 DidPlay client (Puts path from to numbers) s start shown t journal = (shown ≡ []) × WasWritten client s path from to numbers t start journal
 DidPlay client (Gathers path from to show) s start shown t journal = (t ≡ s) × (numbers : List ℤ) × (shown ≡ show numbers ∷ []) × AreCells s path from to numbers journal
+DidPlay client (Leases show) s start shown t journal = DidLease client show s start shown t journal
 DidPlay client (Commits message) s start shown t journal = ⊥
 
 -- lines that were played one after another, none of them refused and none of them a commit: what they showed, and the session that they led to

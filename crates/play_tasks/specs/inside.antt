@@ -1,2 +1,4 @@
 pub mod Working
+pub mod Phases
 pub mod Sessions
+pub mod Releasing

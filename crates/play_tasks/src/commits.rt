@@ -6,7 +6,7 @@ ghost use Rattle.store_api.specs.Plays.{Or, call, Acts, Comes, dooms};
 ghost use Rattle.store_api.specs.declared.machines.Refusal.TheVariants.{NoMemory};
 ghost use Rattle.commit_path.specs.Committing.{session_in, message_in, commit_rest, commit_left, IsLeft};
 ghost use Rattle.rebase.specs.Rebasing.{rebase_rest, rebase_left};
-ghost use Rattle.play_outcome.specs.Ending.{is_failed};
+ghost use Rattle.play_outcome.specs.Ending.{ends_failed};
 ghost use Rattle.play_tasks.specs.declared.working.SessionTask.{SessionTask as TheTask};
 ghost use Rattle.play_outcome.specs.Playing.{refused};
 ghost use Rattle.play_tasks.specs.Playing.{doubt_play, after_commit, after_rebase, commit_play, tries_of, policy_of};
@@ -135,7 +135,7 @@ fn after_refusal(alloc: Global, line: u32, shown: Shows, commit: Commit, why: Re
         (working_rest task result) }
     ensures works { is_working result ≡ true }
     ensures few { (lines : ℕ) → working_left lines result ≤ settle_steps }
-    ensures blames { (task : TheTask) → dooms is_failed (working_rest task result) ≡ true
+    ensures blames { (task : TheTask) → dooms ends_failed (working_rest task result) ≡ true
         → is_fault why ≡ true }
 {
     match why {
@@ -254,7 +254,7 @@ pub(crate) fn step_committing<S: Store>(
     requires live { is_ask (commit_rest commit) ≡ true }
     requires polite { IsTrue (S.view store.old).caller.tells
         → NextIsPolite (commit_rest commit) (S.view store.old).seen }
-    ensures acts { Acts is_failed (S.view store.old) (S.view store.new)
+    ensures acts { Acts ends_failed (S.view store.old) (S.view store.new)
         (call (commit_rest commit) (after_commit line shown (doubt_play shown (session_in commit))
         (after_lost tries.left tries.policy line shown (message_in commit) (session_in commit))))
         (working_rest task.now result) }
@@ -278,7 +278,7 @@ pub(crate) fn step_rebasing<S: Store>(
     store: &mut S,
 ) -> Working
     requires { is_ask (rebase_rest rebase) ≡ true }
-    ensures acts { Acts is_failed (S.view store.old) (S.view store.new)
+    ensures acts { Acts ends_failed (S.view store.old) (S.view store.new)
         (call (rebase_rest rebase)
         (after_rebase line shown (commit_play tries.left tries.policy line shown message)))
         (working_rest task.now result) }

@@ -5,7 +5,7 @@ ghost use Rattle.store_api.specs.Program.{is_ask};
 ghost use Rattle.store_api.specs.Plays.{call, Acts, Comes};
 ghost use Rattle.commit_path.specs.Committing.{session_in};
 ghost use Rattle.settle.specs.inside.Working.{settle_rest, settle_left};
-ghost use Rattle.play_outcome.specs.Ending.{is_failed};
+ghost use Rattle.play_outcome.specs.Ending.{ends_failed};
 ghost use Rattle.play_outcome.specs.Settling.{settled, answers_well};
 ghost use Rattle.play_tasks.specs.declared.working.SessionTask.{SessionTask as TheTask};
 ghost use Rattle.play_tasks.specs.Playing.{how_of, after_settling, doubt_play};
@@ -109,7 +109,7 @@ pub(crate) fn step_settling<S: Store>(
     store: &mut S,
 ) -> Working
     requires { is_ask (settle_rest settle) ≡ true }
-    ensures acts { Acts is_failed (S.view store.old) (S.view store.new)
+    ensures acts { Acts ends_failed (S.view store.old) (S.view store.new)
         (call (settle_rest settle) (after_settling shown id)) (working_rest task.now result) }
     ensures works { is_working result ≡ true }
     ensures falls { working_left (length task.now.body.now) result < settle_left settle }

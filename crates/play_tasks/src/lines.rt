@@ -9,6 +9,7 @@ ghost use Rattle.play_tasks.specs.inside.Working.{is_clean, is_well, is_local, w
 use crate::boxes::{play_cells, play_put};
 use crate::chunks::{play_fill, play_get, play_key_get, play_key_set, play_set, show};
 use crate::commits::{begin_commit, tries_for};
+use crate::leasing::play_lease;
 use crate::working::{SessionTask, Step, Working};
 use ice_base::Text;
 use ice_ids::Id8;
@@ -319,6 +320,7 @@ fn play_line(
         ),
         Call::Ref(_) => Step::On { session, shown },
         Call::Prop { name, value } => play_prop(line.number, name, value, session, shown),
+        Call::Lease => play_lease(alloc, line.number, at, session, shown),
     }
 }
 

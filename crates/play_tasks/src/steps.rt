@@ -8,7 +8,7 @@ ghost use Rattle.session.specs.Setting.{set_rest, set_left};
 ghost use Rattle.session.specs.Getting.{get_rest, get_left, get_session};
 ghost use Rattle.array_region.specs.Getting.{region_rest, region_left, region_session};
 ghost use Rattle.array_region.specs.Filling.{region_set_rest, region_set_left};
-ghost use Rattle.play_outcome.specs.Ending.{is_failed};
+ghost use Rattle.play_outcome.specs.Ending.{ends_failed};
 ghost use Rattle.play_tasks.specs.Playing.{after_open};
 ghost use Rattle.play_tasks.specs.Lines.{cells_shown};
 ghost use Rattle.play_outcome.specs.Settling.{settled, answers_well, ComesOrStarves, Faults};
@@ -18,6 +18,7 @@ use crate::boxes::show_cells;
 use crate::chunks::show_value;
 use crate::commits::{step_committing, step_rebasing};
 use crate::doubts::step_settling;
+use crate::leasing::step_leasing;
 use crate::lines::{play_lines, refuse};
 use crate::working::{AskedFor, SessionTask, Working};
 use array_region::{Numbers, RegionGet, RegionSet};
@@ -224,7 +225,7 @@ fn step_opening<S: Store>(
     store: &mut S,
 ) -> Working
     requires live { is_ask (open_rest opener) ≡ true }
-    ensures acts { Acts is_failed (S.view store.old) (S.view store.new)
+    ensures acts { Acts ends_failed (S.view store.old) (S.view store.new)
         (call (open_rest opener) (after_open task.now.access.now task.now.line task.now.body.now))
         (working_rest task.now result) }
     ensures works { is_working result ≡ true }
@@ -248,7 +249,7 @@ fn step_setting<S: Store>(
     requires live { is_ask (set_rest set) ≡ true }
     requires polite { IsTrue (S.view store.old).caller.tells
         → NextIsPolite (set_rest set) (S.view store.old).seen }
-    ensures acts { Acts is_failed (S.view store.old) (S.view store.new)
+    ensures acts { Acts ends_failed (S.view store.old) (S.view store.new)
         (call (set_rest set) (after_set line shown.items (lines_from task.now at)))
         (working_rest task.now result) }
     ensures works { is_working result ≡ true }
@@ -271,7 +272,7 @@ fn step_getting<S: Store>(
     store: &mut S,
 ) -> Working
     requires live { is_ask (get_rest get) ≡ true }
-    ensures acts { Acts is_failed (S.view store.old) (S.view store.new)
+    ensures acts { Acts ends_failed (S.view store.old) (S.view store.new)
         (call (get_rest get) (after_get (shown_for asked line) line shown.items (get_session get)
         (lines_from task.now at))) (working_rest task.now result) }
     ensures works { is_working result ≡ true }
@@ -295,7 +296,7 @@ fn step_putting<S: Store>(
     requires live { is_ask (region_set_rest set) ≡ true }
     requires polite { IsTrue (S.view store.old).caller.tells
         → NextIsPolite (region_set_rest set) (S.view store.old).seen }
-    ensures acts { Acts is_failed (S.view store.old) (S.view store.new)
+    ensures acts { Acts ends_failed (S.view store.old) (S.view store.new)
         (call (region_set_rest set) (after_set line shown.items (lines_from task.now at)))
         (working_rest task.now result) }
     ensures works { is_working result ≡ true }
@@ -317,7 +318,7 @@ fn step_gathering<S: Store>(
     store: &mut S,
 ) -> Working
     requires live { is_ask (region_rest get) ≡ true }
-    ensures acts { Acts is_failed (S.view store.old) (S.view store.new)
+    ensures acts { Acts ends_failed (S.view store.old) (S.view store.new)
         (call (region_rest get) (after_get (cells_shown line) line shown.items (region_session get)
         (lines_from task.now at))) (working_rest task.now result) }
     ensures works { is_working result ≡ true }
@@ -339,7 +340,7 @@ pub(crate) fn step_on<S: Store>(
     requires works { is_working state ≡ true }
     requires polite { IsTrue (S.view store.old).caller.tells
         → PlayIsPolite (working_rest task.now state) (S.view store.old).seen }
-    ensures acts { Acts is_failed (S.view store.old) (S.view store.new)
+    ensures acts { Acts ends_failed (S.view store.old) (S.view store.new)
         (working_rest task.now state) (working_rest task.now result) }
     ensures works { is_working result ≡ true }
     ensures falls { working_left (length task.now.body.now) result < working_left
@@ -372,6 +373,13 @@ pub(crate) fn step_on<S: Store>(
             shown,
             get,
         } => step_gathering(alloc, task, line, at, shown, get, store),
+        Working::Leasing {
+            line,
+            at,
+            shown,
+            session,
+            lease,
+        } => step_leasing(alloc, task, line, at, shown, session, lease, store),
         Working::Committing {
             line,
             tries,

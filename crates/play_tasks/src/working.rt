@@ -5,7 +5,8 @@ use commit_path::Commit;
 use conflicts::Policy;
 use ice_base::Text;
 use ice_ids::Id12;
-use play_outcome::{Outcome, Shown, Shows};
+use leases::Lease;
+use play_outcome::{End, Outcome, Shown, Shows};
 use play_script::Line;
 use rebase::Rebase;
 use script_calls::Access;
@@ -41,7 +42,7 @@ pub struct Tries {
     pub policy: Policy,
 }
 
-/// The machine that a worker steps.
+/// The machine that a worker steps while the session is open.
 #[derive(Drop)]
 pub enum Working {
     /// The session is being opened.
@@ -77,6 +78,15 @@ pub enum Working {
         shown: Vec<Shown>,
         get: RegionGet,
     },
+    /// A lease of the session's base is being put, by this line of the script, and `shown` has room for it; the line behind it has
+    /// the number `at` in the body, from 0.
+    Leasing {
+        line: u32,
+        at: usize,
+        shown: Vec<Shown>,
+        session: Session,
+        lease: Lease,
+    },
     /// The session is being committed, by this line of the script.
     Committing {
         line: u32,
@@ -99,10 +109,36 @@ pub enum Working {
         message: Text,
         rebase: Rebase,
     },
-    /// The task has ended.
+    /// The session has ended.
     Ended {
         outcome: Outcome,
     },
+}
+
+/// The releases of a session's leases, behind all that it did.
+#[derive(Drop)]
+pub enum Releases {
+    /// The lease comes next that is shown at the number `at`, from 0: this line of the script put it, under this id.
+    Next {
+        shown: Vec<Shown>,
+        end: End,
+        at: usize,
+        line: u32,
+        id: Id12,
+    },
+    /// All are done, and the task has ended.
+    Ended {
+        outcome: Outcome,
+    },
+}
+
+/// What a worker does.
+#[derive(Drop)]
+pub enum Phase {
+    /// It plays the session.
+    Playing(Working),
+    /// It releases the session's leases.
+    Releasing(Releases),
 }
 
 /// What a line of a task comes to.

@@ -15,8 +15,8 @@ use Rattle.collecting.specs.Walks.{IsObject, Walk}
 use Rattle.collecting.specs.Runs.{OwesCollecting}
 use Rattle.history_laws.specs.Collections as laws
 use Rattle.history_laws.specs.Collections.{Collection, Collects, IsCollected, IsPreceded, OnlyCollects, IsLost, CommitsLater, LeavesLost, NoneMissing, AreCollected}
-use Rattle.history_laws.specs.Refs.{Removes}
-use Rattle.history_laws.specs.Laws.{ClientCollects, CommitsChild, RefsKept, BasesKept, PutsKept, AnchoredReached, ReachedFound, BasesFound, OwnFound, NoneMissed, NothingMissing}
+use Rattle.history_laws.specs.Refs.{IsLeased, Removes}
+use Rattle.history_laws.specs.Laws.{ClientCollects, CommitsChild, RefsKept, BasesKept, LeasesKept, PutsKept, AnchoredReached, ReachedFound, BasesFound, LeasesFound, OwnFound, NoneMissed, NothingMissing}
 use Rattle.script_calls.specs.declared.calls.Head.{Head}
 use Rattle.play_script.specs.declared.scripts.Task.{Task}
 use Rattle.play_outcome.specs.declared.outcome.Outcome.{Outcome}
@@ -40,10 +40,12 @@ pub record Laws : Type 0 where
   pub child : CommitsChild
   pub refs : RefsKept
   pub bases : BasesKept
+  pub leases : LeasesKept
   pub puts : PutsKept
   pub anchored : AnchoredReached
   pub refs_found : ReachedFound
   pub bases_found : BasesFound
+  pub leases_found : LeasesFound
   pub own_found : OwnFound
   pub missed : NoneMissed
   pub nothing : NothingMissing
@@ -99,8 +101,11 @@ module _ (l : Laws) (draw : Draw) (tasks : List Task) (changes : ℕ → Changes
     abbrev collections : List Collection
     collections = all_from start journal 0 tasks
 
+    behind-old : (seen : List Event) → start ++ seen ≡ old ++ (opening ++ seen)
+    behind-old seen = ap (λ (j : List Event). j ++ seen) h.collections.start_is ∙ append_assoc old opening seen
+
     journal-is : journal ≡ old ++ (opening ++ since)
-    journal-is = ap (λ (j : List Event). j ++ since) h.collections.start_is ∙ append_assoc old opening since
+    journal-is = behind-old since
 
     -- an event of the moment's journal stands before its end
     within : (seen : List Event) (event : Event) (tail : List Event) → since ≡ seen ++ event ∷ tail → length (start ++ seen) < length journal
@@ -173,6 +178,9 @@ module _ (l : Laws) (draw : Draw) (tasks : List Task) (changes : ℕ → Changes
         refs = λ ref key object reached put. l.refs_found collections old journal collected ref key object reached put;
         sessions = λ other session key object reached put.
             l.bases_found collections old journal collected session.ref session.has.base key object (l.anchored session.ref session.has.base (session.has.named.got.own.before ++ session.has.named.got.own.event ∷ []) journal session.anchored) reached put;
+        leased = λ other session key object reached put.
+            l.leases_found collections old (opening ++ session.since) journal collected session.lease session.has.base key object
+            (subst (λ (from : List Event). IsLeased session.lease session.has.base from journal) (behind-old session.since) session.leased) reached put;
         puts = λ other access key object opens all put.
             l.own_found collections old opening journal collected (other + 1) key object (subst (λ (from : List Event). HasPut (other + 1) key from journal) h.collections.start_is put) (preceded other all);
       }
@@ -202,7 +210,7 @@ module _ (l : Laws) (draw : Draw) (tasks : List Task) (changes : ℕ → Changes
     removes = due-at;
     told = tells outcomes told;
     needed = λ place cutoff since rest part listed safe.
-        dooms-nothing l.owns l.clients l.child draw tasks changes old start new h since rest part place cutoff listed.collects safe l.refs l.bases l.puts l.anchored listed.lists;
+        dooms-nothing l.owns l.clients l.child draw tasks changes old start new h since rest part place cutoff listed.collects safe l.refs l.bases l.leases l.puts l.anchored listed.lists;
     stands = λ since rest part none_missing leaves safe. needed-stands since rest part none_missing leaves safe;
     goes_on = λ none_missing leaves safe. subst NoneMissing (sym h.collections.is) (none-lost more [] (sym (append-nil more)) none_missing leaves safe);
     free = free;

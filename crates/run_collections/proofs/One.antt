@@ -1,5 +1,6 @@
 -- One collection of a run: what it dooms, nothing needs.
 use Rattle.std.proofs.Common.{◌≡◌, inl, inr, ℕ, ◌+◌, List, [], ◌∷◌, ◌++◌, refl, sym, ◌∙◌, ap, subst, append_assoc, append-nil}
+use Rattle.std.specs.Prelude.{Contains}
 use Rattle.ice_ids.specs.declared.Id12.{Id12}
 use Rattle.ice_ids.specs.declared.drawing.Draw.{Draw}
 use Rattle.zarr_tree.specs.Changes.{Changes}
@@ -11,12 +12,13 @@ use Rattle.reach.specs.Own.{OwnLaw}
 use Rattle.collecting.specs.Walks.{Walk, Doomed}
 use Rattle.collecting.specs.Runs.{walk_of, OwesCollecting}
 use Rattle.history_laws.specs.Collections as laws
+use Rattle.history_laws.specs.Laws as kept
 use Rattle.history_laws.specs.Collections.{Collection, DoomedBy, Owes, IsNotBefore, IsPreceded, CommitsOwn, IsQuiet, IsListed, IsCollected, Collects}
 use Rattle.history_laws.specs.Refs.{Commits}
-use Rattle.history_laws.specs.Laws.{collection_of, ClientCollects, CommitsChild, RefsKept, BasesKept, PutsKept, AnchoredReached}
+use Rattle.history_laws.specs.Laws.{collection_of, ClientCollects, CommitsChild, RefsKept, BasesKept, LeasesKept, PutsKept, AnchoredReached}
 use Rattle.play_script.specs.declared.scripts.Task.{Task}
 use Rattle.run_histories.specs.Told.{HasHistories}
-use Rattle.run_collections.specs.Beside.{CollectsAt, walk_at, DoomedAt, HasBegun, IsNotEarlier, Precedes, CommitsBeside, LeavesAlone, IsSafe}
+use Rattle.run_collections.specs.Beside.{CollectsAt, walk_at, DoomedAt, PassedNone, HasBegun, IsNotEarlier, Precedes, CommitsBeside, LeavesAlone, IsSafe}
 use Rattle.run_collections.specs.Keeping.{DoomsNothingNeeded}
 use Rattle.run_collections.proofs.Moments.{Each-where}
 use Rattle.run_collections.proofs.Commits.{IsSessions, commit-own}
@@ -72,6 +74,9 @@ module _ (owns : OwnLaw) (clients : ClientCollects) (child : CommitsChild) (draw
     doomed-back : (key : Key) → DoomedBy c (journal ++ []) key → DoomedAt place cutoff start journal key
     doomed-back key d = subst (λ (w : Walk). Doomed cutoff w key) walk-here (subst (λ (j : List Event). DoomedBy c j key) (append-nil journal) d)
 
+    passed-fore : (base : Id12) → PassedNone place cutoff start journal base → kept.PassedNone c journal base
+    passed-fore base passed key absent = passed key (subst (λ (w : Walk). Contains w.absent key) walk-here absent)
+
     -- ---- what it owes
     pub owes-here : Each (Owes c) start since
     owes-here =
@@ -126,11 +131,13 @@ module _ (owns : OwnLaw) (clients : ClientCollects) (child : CommitsChild) (draw
         quiet = Each-where (LeavesAlone (DoomedAt place cutoff start journal) place cutoff start) (IsQuiet (DoomedBy c (journal ++ [])) c) start since quiet-here safe.quiet;
       }
 
-      pub dooms-nothing : RefsKept → BasesKept → PutsKept → AnchoredReached → (walk_at place cutoff start journal).lists ≡ 4 → DoomsNothingNeeded draw tasks place cutoff start since
-      dooms-nothing refs bases puts anchored four = record {
+      pub dooms-nothing : RefsKept → BasesKept → LeasesKept → PutsKept → AnchoredReached → (walk_at place cutoff start journal).lists ≡ 4 → DoomsNothingNeeded draw tasks place cutoff start since
+      dooms-nothing refs bases leases puts anchored four = record {
         refs = λ ref key reached doomed. refs c journal [] (collected-here four) ref key reached (doomed-fore key doomed);
         bases = λ ref base key named reached doomed. bases c journal [] (collected-here four) ref base key named reached (doomed-fore key doomed);
         sessions = λ other session key reached doomed.
             bases c journal [] (collected-here four) session.ref session.has.base key (anchored session.ref session.has.base (session.has.named.got.own.before ++ session.has.named.got.own.event ∷ []) journal session.anchored) reached (doomed-fore key doomed);
+        leased = λ other session key passed reached doomed.
+            leases c journal [] (collected-here four) session.lease session.has.base (start ++ session.since) key session.leased (passed-fore session.has.base passed) reached (doomed-fore key doomed);
         puts = λ other access key opens precedes put doomed. puts c journal [] (listed-here four) (other + 1) start key (preceded-here other precedes) put (doomed-fore key doomed);
       }

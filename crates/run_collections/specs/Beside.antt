@@ -1,8 +1,10 @@
 -- A collection of a run, and what it asks of those beside it. (Icechunk's manual, "Expiring Data", "Garbage collection": the cutoff precedes the oldest
 -- open session; own.)
-use Rattle.std.specs.Prelude.{◌≡◌, ◌⊎◌, ℕ, ◌+◌, ◌≤◌, List, ◌∷◌, ◌++◌, Some, slice_get}
+use Rattle.std.specs.Prelude.{◌≡◌, ◌≢◌, ◌⊎◌, ℕ, ◌+◌, ◌≤◌, List, ◌∷◌, ◌++◌, Contains, Some, slice_get}
 use Rattle.ice_ids.specs.declared.Id12.{Id12}
+use Rattle.ice_ids.specs.Text.{initial_id}
 use Rattle.object_store.specs.declared.keys.Key.{Key}
+use Rattle.object_store.specs.declared.keys.Key.TheVariants.{Snapshot}
 use Rattle.object_store.specs.declared.events.Event.{Event}
 use Rattle.store_api.specs.Journal.{Each}
 use Rattle.reach.specs.Holding.{Reaches}
@@ -36,6 +38,10 @@ DoomedAt place cutoff start journal key = Doomed cutoff (walk_at place cutoff st
 -- it was told the branches by now
 abbrev pub HasBegun : (place cutoff : ℕ) → (start journal : List Event) → Type 0
 HasBegun place cutoff start journal = (left : List Key) × ((walk_at place cutoff start journal).branches ≡ Some left)
+
+-- what it found absent, it passed over, and the base reaches nothing of that, but maybe the initial snapshot
+abbrev pub PassedNone : (place cutoff : ℕ) → (start journal : List Event) → (base : Id12) → Type 0
+PassedNone place cutoff start journal base = (key : Key) → Contains (walk_at place cutoff start journal).absent key → key ≢ Snapshot initial_id → Reaches journal base key → ⊥
 
 -- ---- sessions
 -- An event of the client of the task at the other place isn't earlier than the cutoff, but where the collection had begun before.

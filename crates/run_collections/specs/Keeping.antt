@@ -1,4 +1,4 @@
--- What is promised of the collections of a run: they remove nothing that a ref or an anchored session reaches. (Own.)
+-- What is promised of the collections of a run: they remove nothing that a ref, a leased session or an anchored session reaches. (Own.)
 use Rattle.std.specs.Prelude.{◌≡◌, ℕ, ◌+◌, List, [], ◌∷◌, ◌++◌, Some, slice_get}
 use Rattle.ice_ids.specs.declared.Id12.{Id12}
 use Rattle.ice_ids.specs.declared.drawing.Draw.{Draw}
@@ -9,7 +9,7 @@ use Rattle.store_api.specs.Journal.{Each, WasPut}
 use Rattle.reach.specs.Holding.{Reaches}
 use Rattle.reach.specs.Own.{HasPut}
 use Rattle.collecting.specs.Walks.{IsObject}
-use Rattle.history_laws.specs.Refs.{RefReaches, IsAnchored, Removes}
+use Rattle.history_laws.specs.Refs.{RefReaches, IsAnchored, IsLeased, Removes}
 use Rattle.history_laws.specs.Collections.{LeavesLost, NoneMissing}
 use Rattle.history_laws.specs.Laws.{Stands}
 use Rattle.script_calls.specs.declared.calls.Access.{Access}
@@ -19,7 +19,7 @@ use Rattle.play_collect.specs.Telling.{CollectedTells}
 use Rattle.play_tasks.specs.Bases.{HasBase}
 use Rattle.play_tasks.specs.Playing.{asked_by}
 use Rattle.play_tasks.specs.Tasks.{ids_at}
-use Rattle.run_collections.specs.Beside.{CollectsAt, OpensAt, walk_at, DoomedAt, Precedes, IsSafe}
+use Rattle.run_collections.specs.Beside.{CollectsAt, OpensAt, walk_at, DoomedAt, PassedNone, Precedes, IsSafe}
 
 -- ---- sessions
 -- A task's session is open here, and one and the same ref reached its base at each event since its client read what names the base.
@@ -29,6 +29,15 @@ pub record IsOpenAnchored (draw : Draw) (tasks : List Task) (place : ℕ) (start
   pub has : HasBase (place + 1) (asked_by access (ids_at draw place)) start journal
   pub ref : Key
   pub anchored : IsAnchored ref has.base (has.named.got.own.before ++ has.named.got.own.event ∷ []) journal
+
+-- A task's session is open here, and a lease names its base, since a moment behind the tasks' start at which a ref named it too.
+pub record IsOpenLeased (draw : Draw) (tasks : List Task) (place : ℕ) (start journal : List Event) : Type 0 where
+  pub access : Access
+  pub opens : OpensAt tasks place access
+  pub has : HasBase (place + 1) (asked_by access (ids_at draw place)) start journal
+  pub lease : Id12
+  pub since : List Event
+  pub leased : IsLeased lease has.base (start ++ since) journal
 
 -- ---- one collection
 -- The event removes the key as a collection that dooms it.
@@ -40,11 +49,12 @@ pub record RemovesDoomed (tasks : List Task) (start journal : List Event) (event
   pub doomed : DoomedAt place cutoff start journal key
 
 -- What the collection dooms at this moment, nothing needs: no branch and no tag that stands reaches it; no session's base does that such a ref reaches, so no
--- anchored session's; and no session put it that the cutoff precedes.
+-- anchored session's; no leased session's base does, where the collection passed over nothing that this reaches; and no session put it that the cutoff precedes.
 pub record DoomsNothingNeeded (draw : Draw) (tasks : List Task) (place cutoff : ℕ) (start since : List Event) : Type 0 where
   pub refs : (ref key : Key) → RefReaches (start ++ since) ref key → DoomedAt place cutoff start (start ++ since) key → ⊥
   pub bases : (ref : Key) (base : Id12) (key : Key) → RefReaches (start ++ since) ref (Snapshot base) → Reaches (start ++ since) base key → DoomedAt place cutoff start (start ++ since) key → ⊥
   pub sessions : (other : ℕ) (session : IsOpenAnchored draw tasks other start (start ++ since)) (key : Key) → Reaches (start ++ since) session.has.base key → DoomedAt place cutoff start (start ++ since) key → ⊥
+  pub leased : (other : ℕ) (session : IsOpenLeased draw tasks other start (start ++ since)) (key : Key) → PassedNone place cutoff start (start ++ since) session.has.base → Reaches (start ++ since) session.has.base key → DoomedAt place cutoff start (start ++ since) key → ⊥
   pub puts : (other : ℕ) (access : Access) (key : Key) → OpensAt tasks other access → Precedes place cutoff other start since → HasPut (other + 1) key start (start ++ since) → DoomedAt place cutoff start (start ++ since) key → ⊥
 
 -- ---- all of them
@@ -61,11 +71,12 @@ AllSafe tasks start since = (place cutoff : ℕ) → HasListed tasks place cutof
 abbrev pub AllPrecede : List Task → (other : ℕ) → (start since : List Event) → Type 0
 AllPrecede tasks other start since = (place cutoff : ℕ) → HasListed tasks place cutoff start (start ++ since) → Precedes place cutoff other start since
 
--- What is needed, stands: each object that was put and that a branch or a tag reaches, or an open anchored session, and each that a session put which
--- all cutoffs precede.
+-- What is needed, stands: each object that was put and that a branch or a tag reaches, or an open session that is anchored or leased, and each that a
+-- session put which all cutoffs precede.
 pub record NeededStands (draw : Draw) (tasks : List Task) (start since : List Event) : Type 0 where
   pub refs : (ref key : Key) → IsObject key → RefReaches (start ++ since) ref key → WasPut (start ++ since) key → Stands (start ++ since) key
   pub sessions : (other : ℕ) (session : IsOpenAnchored draw tasks other start (start ++ since)) (key : Key) → IsObject key → Reaches (start ++ since) session.has.base key → WasPut (start ++ since) key → Stands (start ++ since) key
+  pub leased : (other : ℕ) (session : IsOpenLeased draw tasks other start (start ++ since)) (key : Key) → IsObject key → Reaches (start ++ since) session.has.base key → WasPut (start ++ since) key → Stands (start ++ since) key
   pub puts : (other : ℕ) (access : Access) (key : Key) → IsObject key → OpensAt tasks other access → AllPrecede tasks other start since → HasPut (other + 1) key start (start ++ since) → Stands (start ++ since) key
 
 -- Of a run over a journal that was old, whose tasks began at start and ended with these outcomes, nobody else acting.

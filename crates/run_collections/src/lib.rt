@@ -1,4 +1,4 @@
-//! The theorem of the collections of a run: they remove nothing that a ref or an anchored session reaches.
+//! The theorem of the collections of a run: they remove nothing that a ref, a leased session or an anchored session reaches.
 #![tactic(auto)]
 
 ghost use Rattle.run_collections.specs.Laws.{NeededLaw};
@@ -8,8 +8,8 @@ use reach::own_law;
 
 /// In a run whose branches have their histories, each object that is removed is removed by a collection that dooms it: one that
 /// it listed, when all that its gets of refs reach was marked, as older than its cutoff and not marked. Once it has listed all, and
-/// as long as its cutoff precedes each session that commits beside it and it is quiet, no branch, no tag that stands and no anchored
-/// session reaches what it dooms, and no session put it that the cutoff precedes; so what they reach stands.
+/// as long as its cutoff precedes each session that commits beside it and it is quiet, no branch, no tag that stands, no leased and
+/// no anchored session reaches what it dooms, and no session put it that the cutoff precedes; so what they reach stands.
 pub fn needed_law()
     ensures { NeededLaw }
 {

@@ -255,7 +255,7 @@ module _ (draw : Draw) (tasks : List Task) (start : List Event) (client place : 
   op-knows (PutOver (Tag name) bytes old why) o = absurd o
   op-knows (PutOver (Tombstone name) bytes old why) o = absurd o
   op-knows (PutOver (Lease id) bytes old why) o = absurd o
-  op-knows (Remove key why) o = absurd o
+  op-knows (Remove key why) o = (none, λ branch other old id e names. absurd cc)
   op-knows (RemoveAt key old why) o = absurd o
 
 module _ (draw : Draw) (tasks : List Task) where

@@ -33,7 +33,7 @@ use Rattle.commit_path.proofs.Editing.{Added, node-added, text-set, node-dropped
 use Rattle.commit_path.proofs.Sources.{later-same}
 use Rattle.zarr_keys.specs.Keys.{session_of, meta_value, put_over}
 use Rattle.script_calls.specs.declared.calls.Call.{Call}
-use Rattle.script_calls.specs.declared.calls.Call.TheVariants.{Edit, Read as Read_call, Commit, Ref, Prop}
+use Rattle.script_calls.specs.declared.calls.Call.TheVariants.{Edit, Read as Read_call, Commit, Ref, Prop, Lease}
 use Rattle.script_calls.specs.declared.calls.EditCall.{EditCall}
 use Rattle.script_calls.specs.declared.calls.EditCall.TheVariants.{Set, Fill, Put, KeySet}
 use Rattle.script_calls.specs.declared.calls.ReadCall.{ReadCall}
@@ -41,14 +41,14 @@ use Rattle.script_calls.specs.declared.calls.ReadCall.TheVariants.{List as List_
 use Rattle.play_script.specs.declared.scripts.Line.{Line}
 use Rattle.play_script.specs.Well.{IsWellEdit, IsWellCall, IsWellLine}
 use Rattle.play_outcome.specs.declared.outcome.Shown.{Shown}
-use Rattle.play_tasks.specs.Lines.{Deed, Goes, Sets, Reads, Puts, Gathers, Commits, deed, edit_deed, read_deed, read_by, key_shown, key_set_deed, key_get_deed, silent, still}
+use Rattle.play_tasks.specs.Lines.{Deed, Goes, Sets, Reads, Puts, Gathers, Leases, Commits, deed, edit_deed, read_deed, read_by, key_shown, key_set_deed, key_get_deed, silent, still}
 use Rattle.play_tasks.specs.Solving.{DidPlay, PlaysAll}
 use Rattle.region_calls.specs.Written.{AreSet}
 use Rattle.play_tasks.proofs.Ways.{Way, adds, texts, drops, unsets, no_key, stays, edited-way}
 use Rattle.run_histories.proofs.Sized.{sized}
 use Rattle.run_histories.proofs.Texts.{same-texts}
 use Rattle.run_histories.proofs.Setting.{set-told, unset-edits}
-use Rattle.run_histories.proofs.Edits.{SetsChunk, Edits, GoesOn, edit-at, edit-base, edit-goes}
+use Rattle.run_histories.proofs.Edits.{SetsChunk, Edits, GoesOn, drew-goes, edit-at, edit-base, edit-goes}
 
 -- ---- the edits of a script
 added-edits : (fault : Result View MetaFault → Option MetaFault) → TellsFaults fault → (path text : List ℕ) (s t : SessionState) → is_path path ≡ true → (r : Result (Id8 × SessionState) Refusal) → added fault s path text ≡ r → session_of r ≡ Ok t → Edits s t
@@ -129,6 +129,7 @@ call-leads line (Edit edit) s well = edit-leads edit s well
 call-leads line (Read_call look) s well = read-leads line look s
 call-leads line (Commit message) s well = tt
 call-leads line (Ref call) s well = still-leads s (Ok [])
+call-leads line Lease s well = tt
 call-leads line (Prop name value) s well = silent-leads s (prop_added s name value) (λ t e. prop-leads name value s t e)
 
 -- ---- the lines of a task
@@ -183,6 +184,7 @@ module _ (ids : AnyIds) (client : ℕ) (start journal : List Event) where
   deed-went s t shown (Reads path index show) leads g p = went-nowhere ids s t p.0 g
   deed-went s t shown (Puts path from to numbers) leads g p = sets-went path p.1.chunks s t g p.1.set
   deed-went s t shown (Gathers path from to show) leads g p = went-nowhere ids s t p.0 g
+  deed-went s t shown (Leases show) leads g p = record { goes = subst (GoesOn ids) (sym p.becomes) (drew-goes ids s g); base = ap (λ (x : SessionState). x.base) p.becomes; rows = ap (λ (x : SessionState). x.rows) p.becomes }
   deed-went s t shown (Commits message) leads g p = absurd p
 
   pub lines-went : (lines : List Line) (s t : SessionState) (shown : List Shown) → All IsWellLine lines → GoesOn ids s → PlaysAll client lines s start shown t journal → WentOn ids s t

@@ -29,7 +29,7 @@ use Rattle.snapshot_file.specs.declared.nodes.NodeRow.{NodeRow}
 use Rattle.repo_objects.specs.Trees.{Puts, nodes_in}
 use Rattle.session.specs.Sessions.{SessionState, base_nodes, nodes_seen, base_tree}
 use Rattle.session.specs.Sources.{IsLater, MayDrawNode}
-use Rattle.session.specs.Chunks.{with_chunk, without_chunk}
+use Rattle.session.specs.Chunks.{after_draw, with_chunk, without_chunk}
 use Rattle.commit_path.proofs.Sources.{later-same, later-later, later-drawn12}
 use Rattle.rebase.specs.AlongLaws.{HasOneTextEach}
 use Rattle.run_histories.proofs.Texts.{same-texts, set-texts, drop-texts}
@@ -311,4 +311,12 @@ edit-goes ids s t e g = record {
   later = later-later ids s.ids t.ids g.later (edit-later s t e);
   texts = edit-texts s t e g.texts;
   kept = λ spends own. let before : OwnAreNew ids s = own-stay ids s t (edit-base s t e) own in edit-keeps ids spends s g.later before (g.kept spends before) t e;
+}
+
+-- a session that drew the id of a lease
+pub drew-goes : (ids : AnyIds) (s : SessionState) → GoesOn ids s → GoesOn ids (after_draw s)
+drew-goes ids s g = record {
+  later = later-later ids s.ids (after12 s.ids) g.later (later-drawn12 s.ids);
+  texts = g.texts;
+  kept = λ spends own. let before : OwnAreNew ids s = own-stay ids s (after_draw s) refl own in entries-keep ids spends s g.later before (g.kept spends before) s.held (after12 s.ids) (later-drawn12 s.ids) refl refl (g.kept spends before).normal;
 }

@@ -6,13 +6,14 @@ use Rattle.ice_ids.specs.declared.drawing.AnyIds.{AnyIds}
 use Rattle.ice_ids.specs.declared.drawing.Draw.{Draw}
 use Rattle.object_store.specs.declared.keys.Key.{Key}
 use Rattle.object_store.specs.declared.keys.Key.TheVariants.{Snapshot, Manifest, Txn, Chunk, Branch, Tag, Tombstone, Lease}
+use Rattle.object_store.specs.declared.keys.Why.{Why}
 use Rattle.object_store.specs.declared.events.Op.{Op}
 use Rattle.object_store.specs.declared.events.Op.TheVariants.{Get, PutNew, PutOver, Remove, RemoveAt, List as ListPart}
 use Rattle.object_store.specs.declared.events.Event.{Event}
 use Rattle.object_store.specs.Machine.{Slot, Stored, slot_of, leaves, put_at, is_on}
 use Rattle.object_store.proofs.Slots.{effect-cases, free-cases, old-cases, same_key-true, slot-append_one}
 use Rattle.store_api.specs.Journal.{IsUnused}
-use Rattle.commit_path.specs.Owed.{Owes, Sessions}
+use Rattle.commit_path.specs.Owed.{Owes, OwesGone, Sessions}
 use Rattle.commit_path.specs.Own.{id_of}
 use Rattle.collecting.specs.Walks.{IsObject}
 use Rattle.history_laws.specs.Refs.{Removes}
@@ -23,7 +24,7 @@ use Rattle.run_histories.proofs.Programs.{IsBranch, IsPlain}
 
 -- an operation that may remove an object
 abbrev pub IsRemoval : Op → Type 0
-IsRemoval (Remove key why) = Unit {0}
+IsRemoval (Remove key why) = IsObject key
 IsRemoval (RemoveAt key old why) = IsObject key
 IsRemoval _ = ⊥
 
@@ -47,12 +48,23 @@ plain-keeps (Remove key why) p r = p
 plain-keeps (RemoveAt key old why) p r = no-object key p r
 plain-keeps (ListPart part) p r = r
 
+-- a lease is no object
+pub gone-keeps : (ids : AnyIds) (why : Why) (key : Key) → OwesGone ids why key → ¬ IsObject key
+gone-keeps ids why (Lease id) o object = object
+gone-keeps ids why (Snapshot id) o object = o
+gone-keeps ids why (Manifest id) o object = o
+gone-keeps ids why (Txn id) o object = o
+gone-keeps ids why (Chunk id) o object = o
+gone-keeps ids why (Branch name) o object = o
+gone-keeps ids why (Tag name) o object = o
+gone-keeps ids why (Tombstone name) o object = o
+
 -- of a task that opens a session
 pub owes-keeps : (ids : AnyIds) (mine : Sessions) (journal : List Event) (op : Op) → Owes ids mine journal op → ¬ IsRemoval op
 owes-keeps ids mine journal (Get key) o r = r
 owes-keeps ids mine journal (PutNew key bytes why) o r = r
 owes-keeps ids mine journal (PutOver key bytes old why) o r = r
-owes-keeps ids mine journal (Remove key why) o r = o
+owes-keeps ids mine journal (Remove key why) o r = gone-keeps ids why key o r
 owes-keeps ids mine journal (RemoveAt key old why) o r = o
 owes-keeps ids mine journal (ListPart part) o r = r
 
@@ -63,7 +75,7 @@ leaves-removes key object (PutNew k bytes why) n time slot s stands on gone =
     free-cases (λ (t : Slot). t.stands ≡ None → ⊥) slot.stands (put_at n time bytes slot) slot (λ e. let no = sym stands ∙ e in cc) (λ free e. cc) gone
 leaves-removes key object (PutOver k bytes old why) n time slot s stands on gone =
     old-cases (λ (t : Slot). t.stands ≡ None → ⊥) old.0 slot.stands (put_at n time bytes slot) slot (λ e. let no = sym stands ∙ e in cc) (λ before there version e. cc) gone
-leaves-removes key object (Remove k why) n time slot s stands on gone = tt
+leaves-removes key object (Remove k why) n time slot s stands on gone = subst IsObject (sym (same_key-true k key on)) object
 leaves-removes key object (RemoveAt k old why) n time slot s stands on gone = subst IsObject (sym (same_key-true k key on)) object
 leaves-removes key object (ListPart part) n time slot s stands on gone = let no = sym stands ∙ gone in absurd cc
 
@@ -82,7 +94,7 @@ leaves-unused : (key : Key) → IsObject key → (op : Op) (n time : ℕ) (slot 
 leaves-unused key object (Get k) n time slot none on u = u
 leaves-unused key object (PutNew k bytes why) n time slot none on u = free-cases Unused slot.stands (put_at n time bytes slot) slot u (λ e s. cc)
 leaves-unused key object (PutOver k bytes old why) n time slot none on u = old-cases Unused old.0 slot.stands (put_at n time bytes slot) slot u (λ s e v t. cc)
-leaves-unused key object (Remove k why) n time slot none on u = absurd (none tt)
+leaves-unused key object (Remove k why) n time slot none on u = absurd (none (subst IsObject (sym (same_key-true k key on)) object))
 leaves-unused key object (RemoveAt k old why) n time slot none on u = absurd (none (subst IsObject (sym (same_key-true k key on)) object))
 leaves-unused key object (ListPart part) n time slot none on u = u
 

@@ -107,7 +107,7 @@ module _ (draw : Draw) (tasks : List Task) (draws : DrawsOnce draw (length tasks
       by_key (Manifest own) f o = let same : own ≡ id = cc in same-draws own same o
       by_key (Txn own) f o = let same : own ≡ id = cc in same-draws own same o
       by_key (Chunk own) f o = let same : own ≡ id = cc in same-draws own same o
-      by_key (Lease own) f o = absurd o
+      by_key (Lease own) f o = let same : own ≡ id = cc in same-draws own same o
       by_key (Branch name) f o = absurd o
       by_key (Tag name) f o = absurd o
       by_key (Tombstone name) f o = absurd o

@@ -1,5 +1,5 @@
 -- What a run leaves of the branches' histories, in words of its tasks (own).
-use Rattle.std.specs.Prelude.{◌≡◌, ◌≢◌, ℕ, ◌+◌, ◌<◌, ◌≤◌, ◌^◌, Bool, true, List, [], ◌++◌, length, Option, Some, slice_get, false}
+use Rattle.std.specs.Prelude.{◌≡◌, ◌≢◌, ◌⊎◌, ℕ, ◌+◌, ◌<◌, ◌≤◌, ◌^◌, Bool, true, List, [], ◌++◌, length, Option, Some, slice_get, false}
 use Rattle.ice_ids.specs.declared.Id12.{Id12}
 use Rattle.ice_ids.specs.declared.drawing.AnyIds.{AnyIds}
 use Rattle.ice_ids.specs.declared.drawing.Draw.{Draw}
@@ -51,7 +51,7 @@ use Rattle.script_calls.specs.declared.calls.Head.TheVariants.{Session, Collect,
 use Rattle.play_script.specs.declared.scripts.Line.{Line}
 use Rattle.play_script.specs.declared.scripts.Task.{Task}
 use Rattle.play_outcome.specs.declared.outcome.Shown.{Shown}
-use Rattle.play_tasks.specs.Bases.{OpensOrHasBase}
+use Rattle.play_tasks.specs.Bases.{IsRelease, OpensOrHasBase}
 use Rattle.play_tasks.specs.Playing.{asked_by, policy_of}
 use Rattle.play_tasks.specs.Solving.{PlaysAll, WasLost, WasCarried, IsOfTask}
 use Rattle.play_tasks.specs.Tasks.{ids_at}
@@ -153,10 +153,10 @@ pub record BeganAtLast (puts : Puts) (trees : Id12 → Option Tree) (changes : �
 
 -- ---- where sessions are open
 -- An event of the client of a task that opens a session is its first one since the tasks began, a get of what the task asks for; or it comes where the
--- client's session has a base: what the client's own last read of its branch named, or while a rebase reads that anew, the read before.
+-- client's session has a base, what the client's own read of its branch named, and leases no other; or it releases a lease.
 abbrev pub ComesWhereOpen : Draw → List Task → (start journal : List Event) → Event → Type 0
 ComesWhereOpen draw tasks start journal event = (place : ℕ) (task : Task) (access : Access) → slice_get tasks place ≡ Some task → task.head ≡ Session access → event.client ≡ place + 1
-    → OpensOrHasBase (place + 1) (asked_by access (ids_at draw place)) start journal event.op
+    → OpensOrHasBase (place + 1) (asked_by access (ids_at draw place)) start journal event.op ⊎ IsRelease event.op
 
 -- ---- sessions that lines were played on
 -- A session of a task of this client, which opens one: it was opened at a snapshot that the client got before it put one itself, and lines of

@@ -1,5 +1,5 @@
 -- The commits of a run, and what its tasks showed, in words of trees.
-use Rattle.std.proofs.Common.{◌≡◌, inr, ℕ, ◌+◌, List, [], ◌∷◌, ◌++◌, refl, sym, ◌∙◌, ap, subst, append_assoc}
+use Rattle.std.proofs.Common.{◌≡◌, inl, inr, ℕ, ◌+◌, List, [], ◌∷◌, ◌++◌, refl, sym, ◌∙◌, ap, subst, append_assoc}
 use Rattle.std.proofs.lemmas.List.{append_cancel_left}
 use Rattle.std.specs.Prelude.{Option, Some, None, slice_get}
 use Rattle.ice_ids.specs.declared.Id12.{Id12}
@@ -21,6 +21,7 @@ use Rattle.repo_objects.specs.Trees.{Puts, bytes_at, tree_under}
 use Rattle.object_store.specs.declared.events.Event.{Event}
 use Rattle.object_store.specs.Machine.{version_at}
 use Rattle.object_store.proofs.Journals.{Each-at, Each-back}
+use Rattle.store_api.specs.declared.machines.Refusal.{Refusal}
 use Rattle.store_api.specs.Journal.{Each, IsGood, puts_of, tree_of}
 use Rattle.repo_read.specs.declared.resolving.At.{At}
 use Rattle.session.specs.Sessions.{SessionState, base_tree, changes_in, overlay}
@@ -40,13 +41,14 @@ use Rattle.script_calls.specs.declared.calls.ReadCall.TheVariants as L
 use Rattle.script_calls.specs.declared.calls.Head.TheVariants.{Session}
 use Rattle.play_script.specs.declared.scripts.Line.{Line}
 use Rattle.play_script.specs.declared.scripts.Task.{Task}
+use Rattle.play_outcome.specs.declared.outcome.End.{End}
 use Rattle.play_outcome.specs.declared.outcome.Outcome.{Outcome}
 use Rattle.play_outcome.specs.declared.outcome.Shown.{Shown}
 use Rattle.play_tasks.specs.Lines as line
-use Rattle.play_tasks.specs.Playing.{asked_by, policy_of}
+use Rattle.play_tasks.specs.Playing.{asked_by, policy_of, placed_shown}
 use Rattle.play_tasks.specs.Solving.{PlaysAll}
 use Rattle.play_tasks.specs.Tasks.{ids_at}
-use Rattle.play_tasks.specs.Telling.{WasOpened}
+use Rattle.play_tasks.specs.Telling.{Refuses, IsQuiet, EndsAt, WasOpened}
 use Rattle.play_tasks.proofs.Early.{WasBegun-more}
 use Rattle.play_tasks.proofs.Going.{PlaysAll-append, plays-none}
 use Rattle.run_histories.specs.Told as told
@@ -54,8 +56,9 @@ use Rattle.run_histories.specs.Told.{HasHistories, CommitsEnter}
 use Rattle.run_histories.proofs.Sized.{changes-stay}
 use Rattle.run_promise.specs.Lines.{Plays}
 use Rattle.run_promise.specs.Ways.{Carried}
-use Rattle.run_promise.specs.Promise.{at_of, Began, FoundBranch, FoundTag, IsSession, ShowsRight, TakesEffect, IsCommit}
+use Rattle.run_promise.specs.Promise.{at_of, Began, FoundBranch, FoundTag, IsSession, EndsShowing, ShowsRight, TakesEffect, IsCommit}
 use Rattle.run_promise.proofs.Bodies.{PlayedOn, plays-on}
+use Rattle.run_promise.proofs.Released.{AreAfter, after-parts, plays-after, end-after}
 use Rattle.run_promise.proofs.Ways.{carried-way}
 
 -- ---- a line that commits
@@ -86,6 +89,7 @@ call-commits number (C.Read look) s message e = absurd (read-commits number look
 call-commits number (C.Commit own) s message e = let is : own ≡ message = cc in ap (λ (m : List ℕ). C.Commit m) is
 call-commits number (C.Ref call) s message e = absurd cc
 call-commits number (C.Prop name value) s message e = absurd cc
+call-commits number C.Lease s message e = absurd cc
 
 -- ---- where a session began
 began-branch : (trees : Id12 → Option Tree) (changes : ℕ → Changes) (client : ℕ) (branch : List ℕ) (writes : _) (s : SessionState) (start journal : List Event) → told.BeganAtBranch trees changes client branch writes s start journal → FoundBranch (files_by trees) changes client branch s.base start journal
@@ -210,14 +214,79 @@ committed initial means draw tasks before old start new since rest event h is br
     (λ g f. committed-at initial means draw tasks before old start since rest event g branch version id f) h e
 
 -- ---- what tasks showed
-pub showed : InitialLaw → ((bytes_at : Place → Option (List ℕ)) → MeansLaw bytes_at) → (draw : Draw) (tasks : List Task) (before : ℕ → Changes) (old start new : List Event) (h : HasHistories draw tasks before old start new) (place : ℕ) (task : Task) (access : Access) (outcome : Outcome)
-    → slice_get tasks place ≡ Some task → task.head ≡ Session access → (w : WasOpened (ids_at draw place) access task (place + 1) start outcome new) → ShowsRight (files_by (tree_of new)) h.changes task access (place + 1) start new outcome.shown
-showed initial means draw tasks before old start new h place task access outcome at head_is w =
-    inr (
-      w.played,
-      w.left,
-      w.body,
-      w.session.base,
-      changes_in (puts_of new) w.session,
-      played-session initial means draw tasks before old start new h place task at access head_is w.opened w.begun w.early w.read w.played w.left outcome.shown w.session w.body w.plays,
-    )
+-- what is shown by the line at which a session ended
+key-set-quiet : (bytes : List ℕ) (o : Option ZarrKey) (s : SessionState) (last : List Shown) → IsQuiet (line.key_set_deed bytes o s) last → last ≡ []
+key-set-quiet bytes None s last q = q
+key-set-quiet bytes (Some (K.Meta path)) s last q = q
+key-set-quiet bytes (Some (K.Chunk path index)) s last q = q
+
+edit-quiet : (edit : EditCall) (s : SessionState) (last : List Shown) → IsQuiet (line.edit_deed edit s) last → last ≡ []
+edit-quiet (E.KeySet key bytes) s last q = key-set-quiet bytes (key_of key) s last q
+edit-quiet edit s last q = q
+
+key-get-quiet : (number : ℕ) (o : Option ZarrKey) (s : SessionState) (last : List Shown) → IsQuiet (line.key_get_deed number o s) last → last ≡ []
+key-get-quiet number None s last q = q
+key-get-quiet number (Some (K.Meta path)) s last q = q
+key-get-quiet number (Some (K.Chunk path index)) s last q = q
+
+read-quiet : (number : ℕ) (look : ReadCall) (s : SessionState) (last : List Shown) → IsQuiet (line.read_deed number look s) last → last ≡ []
+read-quiet number (L.List path) s last q = q
+read-quiet number (L.Get path) s last q = q
+read-quiet number (L.Chunk path index) s last q = q
+read-quiet number (L.Cells place) s last q = q
+read-quiet number (L.KeyGet key) s last q = key-get-quiet number (key_of key) s last q
+
+placed-showing : (l : Line) (ls : List Line) → l.call ≡ C.Lease → (placed : Option Id12) (last : List Shown) → last ≡ placed_shown (line.lease_shown l.number) placed → EndsShowing (l ∷ ls) last
+placed-showing l ls leases None last is = inl is
+placed-showing l ls leases (Some id) last is = inr (record { line = l; behind = ls; left_is = refl; leases = leases; id = id; why = None; shows = is })
+
+refused-showing : (client : ℕ) (l : Line) (ls : List Line) (call : Call) (s : SessionState) (start : List Event) (last : List Shown) (why : Refusal) (ended : List Event) → l.call ≡ call → Refuses client (line.deed l.number call s) s start last why ended → IsQuiet (line.deed l.number call s) last → EndsShowing (l ∷ ls) last
+refused-showing client l ls (C.Edit edit) s start last why ended is t q = inl (edit-quiet edit s last q)
+refused-showing client l ls (C.Read look) s start last why ended is t q = inl (read-quiet l.number look s last q)
+refused-showing client l ls (C.Commit message) s start last why ended is t q = inl q
+refused-showing client l ls (C.Ref call) s start last why ended is t q = inl q
+refused-showing client l ls (C.Prop name value) s start last why ended is t q = inl q
+refused-showing client l ls C.Lease s start last why ended is t q = elim t.0 [
+  | inl none ↦ inl none.1
+  | inr w ↦ placed-showing l ls is w.placed last w.last_is
+]
+
+ends-showing : (client : ℕ) (access : Access) (left : List Line) (s : SessionState) (start : List Event) (last : List Shown) (end : End) (ended : List Event) → EndsAt client access left s start last end ended → EndsShowing left last
+ends-showing client access [] s start last end ended t = inl t.2
+ends-showing client access (l ∷ ls) s start last end ended (inl r) = refused-showing client l ls l.call s start last r.why ended refl r.refuses r.quiet
+ends-showing client access (l ∷ ls) s start last end ended (inr (inl r)) = inl r.quiet
+ends-showing client access (l ∷ ls) s start last end ended (inr (inr r)) = inl r.quiet
+
+module _ (initial : InitialLaw) (means : (bytes_at : Place → Option (List ℕ)) → MeansLaw bytes_at) (draw : Draw) (tasks : List Task) (before : ℕ → Changes) (old start ended since : List Event) where
+  abbrev entire : List Event
+  entire = ended ++ since
+
+  -- as the session had ended, and then the leases were released
+  showed-at : (h : HasHistories draw tasks before old start entire) (place : ℕ) (task : Task) (access : Access) (outcome : Outcome) (shown : List Shown) → slice_get tasks place ≡ Some task → task.head ≡ Session access → (w : WasOpened (ids_at draw place) access task (place + 1) start outcome ended) → AreAfter outcome.shown shown
+      → ShowsRight (files_by (tree_of entire)) h.changes task access (place + 1) start entire shown
+  showed-at h place task access outcome shown at head_is w released =
+      let client : ℕ = place + 1 in
+      let good = (Each-back IsGood [] ended since h.sound.good).1 in
+      let begun = WasBegun-more client (asked_by access (ids_at draw place)) w.opened start ended since w.begun in
+      let read = IsOpened-append w.opened ended since good w.read in
+      let plays = PlaysAll-append client w.played w.opened start w.shown w.session ended since good w.plays in
+      let session = played-session initial means draw tasks before old start entire h place task at access head_is w.opened begun w.early read w.played w.left w.shown w.session w.body plays in
+      let parts = after-parts w.shown w.last shown (subst (λ (x : List Shown). AreAfter x shown) w.shown_is released) in
+      inr (record {
+        played = w.played;
+        left = w.left;
+        body_is = w.body;
+        first = parts.0;
+        last = parts.1;
+        shown_is = parts.2;
+        base = w.session.base;
+        own = changes_in (puts_of entire) w.session;
+        session = record { head_is = session.head_is; began = session.began; tree = session.tree; has = session.has; plays = plays-after w.played session.tree w.shown parts.0 (apply (changes_in (puts_of entire) w.session) session.tree) parts.3 session.plays };
+        at_last = end-after w.left w.last parts.1 parts.4 (ends-showing client access w.left w.session start w.last outcome.end ended w.ends);
+      })
+
+pub showed : InitialLaw → ((bytes_at : Place → Option (List ℕ)) → MeansLaw bytes_at) → (draw : Draw) (tasks : List Task) (before : ℕ → Changes) (old start new ended since : List Event) (h : HasHistories draw tasks before old start new) → new ≡ ended ++ since → (place : ℕ) (task : Task) (access : Access) (outcome : Outcome) (shown : List Shown)
+    → slice_get tasks place ≡ Some task → task.head ≡ Session access → WasOpened (ids_at draw place) access task (place + 1) start outcome ended → AreAfter outcome.shown shown → ShowsRight (files_by (tree_of new)) h.changes task access (place + 1) start new shown
+showed initial means draw tasks before old start new ended since h is place task access outcome shown at head_is w released =
+    subst (λ (n : List Event). (g : HasHistories draw tasks before old start n) → ShowsRight (files_by (tree_of n)) g.changes task access (place + 1) start n shown) (sym is)
+    (λ g. showed-at initial means draw tasks before old start ended since g place task access outcome shown at head_is w released) h

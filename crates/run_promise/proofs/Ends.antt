@@ -4,7 +4,8 @@ use Rattle.std.proofs.lemmas.List.{append_cancel_left}
 use Rattle.std.specs.Prelude.{Option, Some}
 use Rattle.ice_ids.specs.declared.Id12.{Id12}
 use Rattle.object_store.specs.declared.keys.Key.{Key}
-use Rattle.object_store.specs.declared.keys.Key.TheVariants.{Branch, Snapshot, Manifest, Chunk}
+use Rattle.object_store.specs.declared.keys.Key.TheVariants.{Snapshot, Manifest, Txn, Chunk, Branch, Tag, Tombstone, Lease}
+use Rattle.object_store.specs.declared.keys.Why.{Why}
 use Rattle.object_store.specs.declared.keys.Why.TheVariants.{Commit, Set}
 use Rattle.object_store.specs.declared.events.Op.{Op}
 use Rattle.object_store.specs.declared.events.Op.TheVariants.{Get, PutNew, PutOver, Remove, RemoveAt, List as ListPart}
@@ -28,10 +29,14 @@ use Rattle.commit_path.specs.Opened.{RefusalTells, IsOfOpening}
 use Rattle.chunk_calls.specs.Told.{SetTells, GetTells, IsOfSet, IsOfGet}
 use Rattle.script_calls.specs.declared.calls.Access.{Access}
 use Rattle.play_script.specs.declared.scripts.Line.{Line}
+use Rattle.play_outcome.specs.declared.outcome.Shown.{Shown}
 use Rattle.play_outcome.specs.declared.outcome.End.{End}
 use Rattle.play_outcome.specs.declared.outcome.End.TheVariants.{Refused}
-use Rattle.play_tasks.specs.Lines.{Deed, Goes, Sets, Reads, Puts, Gathers, Commits, deed}
+use Rattle.play_outcome.specs.declared.outcome.End.TheVariants as E
+use Rattle.play_tasks.specs.Lines.{Deed, Goes, Sets, Reads, Puts, Gathers, Leases, Commits, deed}
+use Rattle.play_tasks.specs.Played.{IsGetOrRelease, IsLeaseGone}
 use Rattle.play_tasks.specs.Telling as told
+use Rattle.play_course.proofs.Released.{released-made}
 use Rattle.run_promise.specs.Promise.{TakesEffect, HasCommitted, EndsRight}
 
 some-id : (a b : Id12) → Some a ≡ Some b → a ≡ b
@@ -142,6 +147,76 @@ gets-nothing client first second g = record {
   each = Each-weaker (GetsAlone client) (LeavesBranches client) (λ before event alone mine branch. same-branches before event branch (get-is-apart event.op (alone mine))) first g.more g.each;
 }
 
+-- ---- releases
+gone-apart : (key : Key) (why : Why) → IsLeaseGone key why → IsApart (Remove key why)
+gone-apart (Lease id) why g branch n time slot on = let no : false ≡ true = on in absurd cc
+gone-apart (Snapshot id) why g branch n time slot on = absurd g
+gone-apart (Manifest id) why g branch n time slot on = absurd g
+gone-apart (Txn id) why g branch n time slot on = absurd g
+gone-apart (Chunk id) why g branch n time slot on = absurd g
+gone-apart (Branch name) why g branch n time slot on = absurd g
+gone-apart (Tag name) why g branch n time slot on = absurd g
+gone-apart (Tombstone name) why g branch n time slot on = absurd g
+
+release-apart : (op : Op) → IsGetOrRelease op → IsApart op
+release-apart (Get key) g branch n time slot on = refl
+release-apart (PutNew key bytes why) g branch n time slot on = absurd g
+release-apart (PutOver key bytes old why) g branch n time slot on = absurd g
+release-apart (Remove key why) g branch n time slot on = gone-apart key why g branch n time slot on
+release-apart (RemoveAt key old why) g branch n time slot on = absurd g
+release-apart (ListPart part) g branch n time slot on = absurd g
+
+-- leases that are released leave all branches
+pub released-nothing : (client : ℕ) (before : List Shown) (first : List Event) (after : List Shown) (journal : List Event) → told.WereReleased client before first after journal → ChangedNothing client first journal
+released-nothing client before first after journal w =
+    let made = released-made client before first after journal w in
+    record {
+      more = made.more;
+      is = made.is;
+      each = Each-weaker (λ h event. event.client ≡ client → IsGetOrRelease event.op) (LeavesBranches client) (λ h event alone mine branch. same-branches h event branch (release-apart event.op (alone mine))) first made.more made.each;
+    }
+
+-- ---- where no branch is changed any more
+-- an event of a list in two parts stands in the second or in the first
+in-parts : (xs ys ws : List Event) (z : Event) (zs : List Event) → xs ++ ys ≡ ws ++ z ∷ zs → ((m : List Event) × (ws ≡ xs ++ m)) ⊎ ((m : List Event) × (xs ≡ ws ++ z ∷ m))
+in-parts [] ys ws z zs e = inl (ws, refl)
+in-parts (x ∷ xs) ys [] z zs e = inr (xs, let same : x ≡ z = cc in ap (λ (y : Event). y ∷ xs) same)
+in-parts (x ∷ xs) ys (w ∷ ws) z zs e =
+    let same : x ≡ w = cc in
+    elim (in-parts xs ys ws z zs cc) [
+      | inl h ↦ inl (h.0, ap (λ (l : List Event). w ∷ l) h.1 ∙ ap (λ (y : Event). y ∷ (xs ++ h.0)) (sym same))
+      | inr h ↦ inr (h.0, ap (λ (l : List Event). x ∷ l) h.1 ∙ ap (λ (y : Event). y ∷ (ws ++ z ∷ h.0)) same)
+    ]
+
+-- what a client committed, and how it ended, stays so
+module _ (files : Files) (client : ℕ) (start ended journal : List Event) (later : ChangedNothing client ended journal) where
+  earlier-committed : (id : Id12) → HasCommitted files client id start journal → HasCommitted files client id start ended
+  earlier-committed id c = elim (in-parts ended later.more c.before c.event c.after (sym later.is ∙ c.is)) [
+    | inl h ↦ absurd (none-committed files client ended journal later id (record { before = c.before; event = c.event; after = c.after; is = c.is; since = h.0; before_is = h.1; own = c.own; branch = c.branch; old = c.old; takes_effect = c.takes_effect }))
+    | inr h ↦ record { before = c.before; event = c.event; after = h.0; is = h.1; since = c.since; before_is = c.before_is; own = c.own; branch = c.branch; old = c.old; takes_effect = c.takes_effect }
+  ]
+
+  pub later-ends : (end : End) → EndsRight files client end start ended → EndsRight files client end start journal
+  later-ends (E.Committed id) c = record {
+    before = c.before;
+    event = c.event;
+    after = c.after ++ later.more;
+    is = later.is ∙ ap (λ (h : List Event). h ++ later.more) c.is ∙ append_assoc c.before (c.event ∷ c.after) later.more;
+    since = c.since;
+    before_is = c.before_is;
+    own = c.own;
+    branch = c.branch;
+    old = c.old;
+    takes_effect = c.takes_effect;
+  }
+  later-ends (E.Collected removed) e = absurd e
+  later-ends E.Done none = λ id c. none id (earlier-committed id c)
+  later-ends (E.Refused line why) none = λ id c. none id (earlier-committed id c)
+  later-ends (E.Stopped line why removed) e = absurd e
+  later-ends (E.InDoubt id how) names = λ other c. names other (earlier-committed other c)
+  later-ends (E.Expired line cases result) e = absurd e
+  later-ends (E.Checked line faults result) e = absurd e
+
 -- ---- a commit in doubt
 -- where two events stand in a list: the first comes before the second, or is it, or comes behind it
 two-places : (xs : List Event) (x : Event) (ys zs : List Event) (z : Event) (ws : List Event) → xs ++ x ∷ ys ≡ zs ++ z ∷ ws → ((xs ≡ zs) × (x ≡ z)) ⊎ (((m : List Event) × (zs ≡ xs ++ x ∷ m)) ⊎ ((m : List Event) × (xs ≡ zs ++ z ∷ m)))
@@ -224,13 +299,14 @@ module _ (trees : Id12 → Option Tree) (client : ℕ) (start journal : List Eve
   commit-none s message (R.InDoubt id) n t = absurd (n id refl)
   commit-none s message why n t = nothing t.1
 
-  refused-none : (d : Deed) (s : SessionState) (why : Refusal) → told.Refuses client d s start why journal → None_
-  refused-none (Goes went) s why t = nothing t.1
-  refused-none (Sets path index bytes) s why t = set-none s path index bytes why t
-  refused-none (Reads path index show) s why t = get-none s path index why t
-  refused-none (Puts path from to numbers) s why t = nothing t.2
-  refused-none (Gathers path from to show) s why t = nothing t.2
-  refused-none (Commits message) s why t = absurd t
+  refused-none : (d : Deed) (s : SessionState) (last : List Shown) (why : Refusal) → told.Refuses client d s start last why journal → None_
+  refused-none (Goes went) s last why t = nothing t.1
+  refused-none (Sets path index bytes) s last why t = set-none s path index bytes why t
+  refused-none (Reads path index show) s last why t = get-none s path index why t
+  refused-none (Puts path from to numbers) s last why t = nothing t.2
+  refused-none (Gathers path from to show) s last why t = nothing t.2
+  refused-none (Leases show) s last why t = nothing t.1
+  refused-none (Commits message) s last why t = absurd t
 
   -- ---- how the lines end
   abbrev Ends : End → Type 0
@@ -243,8 +319,8 @@ module _ (trees : Id12 → Option Tree) (client : ℕ) (start journal : List Eve
   doubted-ends : (s : SessionState) (message : List ℕ) (end : End) → told.WasInDoubt client s message start end journal → Ends end
   doubted-ends s message end d = subst Ends (sym d.end_is) (doubt-names trees client s message start end journal d)
 
-  tried-ends : (access : Access) (l : Line) (s : SessionState) (end : End) → told.WasTriedAt client access l s start end journal → Ends end
-  tried-ends access l s end t = elim t.ends [
+  tried-ends : (access : Access) (l : Line) (s : SessionState) (last : List Shown) (end : End) → told.WasTriedAt client access l s start last end journal → Ends end
+  tried-ends access l s last end t = elim t.ends [
     | inl c ↦ subst Ends (sym c.end_is) (took-committed trees client t.at_last t.message c.made start journal c.took)
     | inr (inl c) ↦ doubted-ends t.at_last t.message end c
     | inr (inr (inl c)) ↦ refused-ends l.number c.why end c.end_is (commit-none t.at_last t.message c.why c.no_doubt c.tells)
@@ -252,11 +328,11 @@ module _ (trees : Id12 → Option Tree) (client : ℕ) (start journal : List Eve
     | inr (inr (inr (inr c))) ↦ refused-ends l.number c.why end c.end_is (nothing c.nothing)
   ]
 
-  pub lines-end : (access : Access) (left : List Line) (s : SessionState) (end : End) → told.EndsAt client access left s start end journal → Ends end
-  lines-end access [] s end t = subst Ends (sym t.0) (nothing t.1)
-  lines-end access (l ∷ ls) s end (inl r) = refused-ends l.number r.why end r.end_is (refused-none (deed l.number l.call s) s r.why r.refuses)
-  lines-end access (l ∷ ls) s end (inr (inl r)) = refused-ends l.number R.NoMemory end r.end_is (nothing r.nothing)
-  lines-end access (l ∷ ls) s end (inr (inr r)) = tried-ends access l s end r
+  pub lines-end : (access : Access) (left : List Line) (s : SessionState) (last : List Shown) (end : End) → told.EndsAt client access left s start last end journal → Ends end
+  lines-end access [] s last end t = subst Ends (sym t.0) (nothing t.1)
+  lines-end access (l ∷ ls) s last end (inl r) = refused-ends l.number r.why end r.end_is (refused-none (deed l.number l.call s) s last r.why r.refuses)
+  lines-end access (l ∷ ls) s last end (inr (inl r)) = refused-ends l.number R.NoMemory end r.end_is (nothing r.nothing)
+  lines-end access (l ∷ ls) s last end (inr (inr r)) = tried-ends access l s last end r
 
   pub unopened-end : (a : Asked) (line : ℕ) (why : Refusal) (end : End) → end ≡ Refused line why → RefusalTells client a start why journal → Ends end
   unopened-end a line why end is t = refused-ends line why end is (open-none a why t)

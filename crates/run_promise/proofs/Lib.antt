@@ -1,4 +1,5 @@
 mod Objects
+mod Released
 mod Lines
 mod Bodies
 mod Ways

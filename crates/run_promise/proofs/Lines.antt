@@ -390,6 +390,13 @@ module _ (client : ℕ) (start journal : List Event) (good : IsGoodJournal journ
           (sym (ap (λ (q : List Shown × SessionState). q.0) same), prop-added s t name value (is ∙ ap (λ (q : List Shown × SessionState). Ok q.1) same))
       by_answer (Err why) is e = absurd cc
 
+  -- ---- a lease
+  drawn-overlay : (s : SessionState) → overlay put (after_draw s) ≡ overlay put s
+  drawn-overlay s = refl
+
+  drawn-opened : (s : SessionState) → IsOpened s journal → IsOpened (after_draw s) journal
+  drawn-opened s o = entries-opened s (after_draw s).ids s.held.chunks journal o o.objects o.chunks
+
   -- ---- a line
   pub line-does : (number : ℕ) (call : Call) (s t : SessionState) (shown : List Shown) → KeepsFrozen s.held s.rows → AreNormal put s t → DidPlay client (line.deed number call s) s start shown t journal → Does number call (overlay put s) shown (overlay put t)
   line-does number (C.Edit edit) s t shown frozen n d = did-edits edit s t shown (edit-did edit s t shown d) frozen n
@@ -398,6 +405,7 @@ module _ (client : ℕ) (start journal : List Event) (good : IsGoodJournal journ
   line-does number (C.Ref call) s t shown frozen n d =
       let same = pair-same ([], s) (shown, t) d in
       (sym (ap (λ (q : List Shown × SessionState). q.0) same), sym (ap (λ (q : List Shown × SessionState). overlay put q.1) same))
+  line-does number C.Lease s t shown frozen n d = (d.id, None, d.shown_is, ap (overlay put) d.becomes ∙ drawn-overlay s)
   line-does number (C.Prop name value) s t shown frozen n d =
       let p = prop-did s t name value shown d in
       (p.0, subst (λ (x : SessionState). overlay put x ≡ overlay put s) (sym p.1.is) refl)
@@ -430,6 +438,7 @@ module _ (client : ℕ) (start journal : List Event) (good : IsGoodJournal journ
   line-goes number (C.Edit edit) s t shown d o = edit-goes edit s t shown (edit-did edit s t shown d) o
   line-goes number (C.Read look) s t shown d o = same-goes s t (look-stays number look s t shown d) o
   line-goes number (C.Commit message) s t shown d o = absurd d
+  line-goes number C.Lease s t shown d o = record { opened = subst (λ (x : SessionState). IsOpened x journal) (sym d.becomes) (drawn-opened s o); rows = ap (λ (x : SessionState). x.rows) d.becomes; at = ap (λ (x : SessionState). x.base) d.becomes }
   line-goes number (C.Prop name value) s t shown d o =
       let a = (prop-did s t name value shown d).1 in
       record { opened = prop-opened s t name value journal a o; rows = ap (λ (x : SessionState). x.rows) a.is; at = ap (λ (x : SessionState). x.base) a.is }

@@ -1,5 +1,5 @@
 -- A run keeps what is promised.
-use Rattle.std.proofs.Common.{◌≡◌, inl, inr, ℕ, ◌+◌, List, refl, subst}
+use Rattle.std.proofs.Common.{◌≡◌, inl, inr, ℕ, ◌+◌, List, refl, sym, subst}
 use Rattle.std.specs.Prelude.{Option, Some, Result, Ok, slice_get}
 use Rattle.ice_ids.specs.declared.Id12.{Id12}
 use Rattle.ice_ids.specs.declared.drawing.Draw.{Draw}
@@ -17,11 +17,13 @@ use Rattle.script_calls.specs.declared.calls.Access.{Access}
 use Rattle.script_calls.specs.declared.calls.Head.{Head}
 use Rattle.script_calls.specs.declared.calls.Head.TheVariants.{Session}
 use Rattle.play_script.specs.declared.scripts.Task.{Task}
+use Rattle.play_outcome.specs.declared.outcome.Shown.{Shown}
+use Rattle.play_outcome.specs.declared.outcome.End.{End}
 use Rattle.play_outcome.specs.declared.outcome.Outcome.{Outcome}
 use Rattle.play_outcome.specs.declared.outcome.RefLine.{RefLine}
 use Rattle.play_tasks.specs.Playing.{asked_by}
 use Rattle.play_tasks.specs.Tasks.{ids_at, TellsAt}
-use Rattle.play_tasks.specs.Telling.{TellsBy}
+use Rattle.play_tasks.specs.Telling.{SessionTells, TellsBy}
 use Rattle.run_histories.specs.Told.{HasHistories, RunLaw}
 use Rattle.run_histories.specs.Told as Histories
 use Rattle.repository.specs.Closing.{RefsLaw}
@@ -31,7 +33,8 @@ use Rattle.run_collections.specs.Laws.{NeededLaw}
 use Rattle.run_promise.specs.Promise.{HasCommitted, ShowsRight, EndsRight, Keeps}
 use Rattle.run_promise.specs.Law.{PromiseLaw}
 use Rattle.run_promise.proofs.Commits.{committed, showed}
-use Rattle.run_promise.proofs.Ends.{lines-end, unopened-end}
+use Rattle.run_promise.proofs.Ends.{later-ends, lines-end, released-nothing, unopened-end}
+use Rattle.run_promise.proofs.Released.{AreAfter, released-after}
 
 -- a commit that took effect, in words of the histories
 abbrev committed-so : (trees : Id12 → Option Tree) (client : ℕ) (id : Id12) (old new : List Event) → HasCommitted (files_by trees) client id old new → Histories.HasCommitted client old new
@@ -56,13 +59,25 @@ module _ (initial : InitialLaw) (means : (bytes_at : Place → Option (List ℕ)
     opens : TellsAt draw place task start outcome new → Opens
     opens t = subst (λ (x : Head). TellsBy x (ids_at draw place) task (place + 1) start outcome new) head_is t
 
+    after : (t : Opens) → AreAfter t.session.shown outcome.shown
+    after t = released-after (place + 1) t.session.shown t.ended outcome.shown new t.released
+
     shows : Opens → ShowsRight (files_by (tree_of new)) h.changes task access (place + 1) start new outcome.shown
-    shows (inl none) = inl none.shown_is
-    shows (inr w) = showed initial means draw tasks before old start new h place task access outcome at head_is w
+    shows t = elim t.tells [
+      | inl none ↦ inl (subst (λ (x : List Shown). AreAfter x outcome.shown) none.shown_is (after t))
+      | inr w ↦ showed initial means draw tasks before old start new t.ended t.since h t.is place task access t.session outcome.shown at head_is w (after t)
+    ]
+
+    -- as the session had ended
+    session-ends : (session : Outcome) (ended : List Event) → SessionTells (ids_at draw place) access task (place + 1) start session ended → EndsRight (files_by (tree_of new)) (place + 1) session.end start ended
+    session-ends session ended (inl none) = unopened-end (tree_of new) (place + 1) start ended (asked_by access (ids_at draw place)) task.line none.why session.end none.end_is none.tells
+    session-ends session ended (inr w) = lines-end (tree_of new) (place + 1) start ended access w.left w.session w.last session.end w.ends
 
     ends : Opens → EndsRight (files_by (tree_of new)) (place + 1) outcome.end start new
-    ends (inl none) = unopened-end (tree_of new) (place + 1) start new (asked_by access (ids_at draw place)) task.line none.why outcome.end none.end_is none.tells
-    ends (inr w) = lines-end (tree_of new) (place + 1) start new access w.left w.session outcome.end w.ends
+    ends t =
+        let nothing = released-nothing (place + 1) t.session.shown t.ended outcome.shown new t.released in
+        subst (λ (end : End). EndsRight (files_by (tree_of new)) (place + 1) end start new) (sym t.end_is)
+        (later-ends (files_by (tree_of new)) (place + 1) start t.ended new nothing t.session.end (session-ends t.session t.ended t.tells))
 
   keeps : (outcomes : List Outcome) (refs : Result (List RefLine) Refusal) → ((place : ℕ) (task : Task) (outcome : Outcome) → slice_get tasks place ≡ Some task → slice_get outcomes place ≡ Some outcome → TellsAt draw place task start outcome new) → ((lines : List RefLine) → refs ≡ Ok lines → TellsEnds (files_by (tree_of new)) h.changes new lines)
       → Keeps (files_by (tree_of new)) tasks outcomes refs h.changes old start new

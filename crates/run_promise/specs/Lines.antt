@@ -3,6 +3,8 @@
 use Rattle.std.specs.Prelude.{◌≡◌, ℕ, ℤ, List, [], ◌∷◌, ◌++◌, map, filter, replicate, Option, Some, None, option_map, Ok}
 use Rattle.std.specs.FinMap.{entries}
 use Rattle.ice_ids.specs.declared.Id8.{Id8}
+use Rattle.ice_ids.specs.declared.Id12.{Id12}
+use Rattle.store_api.specs.declared.machines.Refusal.{Refusal}
 use Rattle.zarr_path.specs.Paths.{is_beneath}
 use Rattle.zarr_path.specs.Keys.{key_of}
 use Rattle.zarr_path.specs.declared.keys.ZarrKey.{ZarrKey}
@@ -111,13 +113,14 @@ Changed (E.Put place numbers) t shown u = PutsBox place numbers t shown u
 Changed edit t shown u = Edits edit t shown u
 
 -- A call that was played on a session that sees the tree t, what it showed, and the tree behind it. A commit is none of these; calls on refs stand in
--- no session's body; a property is the commit's, and leaves the tree as it is.
+-- no session's body; a property is the commit's, and leaves the tree as it is, and so does a lease, of which its id is shown, and why it was left, if it was.
 abbrev pub Does : ℕ → Call → Tree → List Shown → Tree → Type 0
 Does line (C.Edit edit) t shown u = Changed edit t shown u
 Does line (C.Read read) t shown u = (shown_of line read t ≡ Some shown) × (u ≡ t)
 Does line (C.Commit message) t shown u = ⊥
 Does line (C.Ref call) t shown u = (shown ≡ []) × (u ≡ t)
 Does line (C.Prop name value) t shown u = (shown ≡ []) × (u ≡ t)
+Does line C.Lease t shown u = (id : Id12) × (left : Option Refusal) × (shown ≡ S.Lease line id left ∷ []) × (u ≡ t)
 
 -- lines one after another
 unfoldable pub Plays : List Line → Tree → List Shown → Tree → Type 0

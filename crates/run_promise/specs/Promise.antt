@@ -1,6 +1,6 @@
 -- What is promised of a run: of the lists of its branches, of each commit, of each read, and of how each task ended. In words of trees, and of the
 -- events on branches; how files are read is a parameter. (Icechunk's manual, "Sessions", "Conflict resolution"; own.)
-use Rattle.std.specs.Prelude.{◌≡◌, ◌⊎◌, ℕ, ◌+◌, true, List, [], ◌∷◌, ◌++◌, length, Some, Result, Ok, slice_get}
+use Rattle.std.specs.Prelude.{◌≡◌, ◌⊎◌, ℕ, ◌+◌, true, List, [], ◌∷◌, ◌++◌, length, Option, Some, Result, Ok, slice_get}
 use Rattle.ice_ids.specs.declared.Id12.{Id12}
 use Rattle.zarr_tree.specs.Trees.{Tree}
 use Rattle.zarr_tree.specs.Changes.{Changes, apply}
@@ -20,11 +20,12 @@ use Rattle.histories.specs.Tags.{Stands}
 use Rattle.histories.specs.TagCalls.{tag_of, TagAgrees, StandsByState}
 use Rattle.script_calls.specs.declared.calls.Access.{Access}
 use Rattle.script_calls.specs.declared.calls.Access.TheVariants.{Write, Read}
-use Rattle.script_calls.specs.declared.calls.Call.TheVariants.{Commit as Commit_line}
+use Rattle.script_calls.specs.declared.calls.Call.TheVariants.{Commit as Commit_line, Lease as Lease_line}
 use Rattle.script_calls.specs.declared.calls.Head.TheVariants.{Session}
 use Rattle.play_script.specs.declared.scripts.Line.{Line}
 use Rattle.play_script.specs.declared.scripts.Task.{Task}
 use Rattle.play_outcome.specs.declared.outcome.Shown.{Shown}
+use Rattle.play_outcome.specs.declared.outcome.Shown.TheVariants.{Lease as Shown_lease}
 use Rattle.play_outcome.specs.declared.outcome.End.{End}
 use Rattle.play_outcome.specs.declared.outcome.End.TheVariants.{Committed, Collected, Done, Refused, Stopped, InDoubt, Expired, Checked}
 use Rattle.play_outcome.specs.declared.outcome.Outcome.{Outcome}
@@ -85,10 +86,36 @@ pub record IsSession (files : Files) (changes : ℕ → Changes) (task : Task) (
   pub plays : Plays played tree shown (apply own tree)
 
 -- ---- reads
--- A task that opens a session showed nothing, as its session wasn't opened; or it showed what the first lines of its body show on its session.
+-- The line at which a session ended was a lease, which may stand, and is shown.
+pub record LeasedAtLast (left : List Line) (last : List Shown) : Type 0 where
+  pub line : Line
+  pub behind : List Line
+  pub left_is : left ≡ line ∷ behind
+  pub leases : line.call ≡ Lease_line
+  pub id : Id12
+  pub why : Option Refusal
+  pub shows : last ≡ Shown_lease line.number id why ∷ []
+
+-- the line at which a session ended, the first that is left, shows nothing, but for a lease
+abbrev pub EndsShowing : List Line → List Shown → Type 0
+EndsShowing left last = (last ≡ []) ⊎ LeasedAtLast left last
+
+-- A session of the task showed what the first lines of the task's body show on it, and what the line showed at which it ended.
+pub record ShowsLines (files : Files) (changes : ℕ → Changes) (task : Task) (access : Access) (client : ℕ) (start journal : List Event) (shown : List Shown) : Type 0 where
+  pub played : List Line
+  pub left : List Line
+  pub body_is : task.body ≡ played ++ left
+  pub first : List Shown
+  pub last : List Shown
+  pub shown_is : shown ≡ first ++ last
+  pub base : Id12
+  pub own : Changes
+  pub session : IsSession files changes task access client start journal played first base own
+  pub at_last : EndsShowing left last
+
+-- A task that opens a session showed nothing, as its session wasn't opened; or it showed what the lines of its body show on its session.
 abbrev pub ShowsRight : Files → (ℕ → Changes) → Task → Access → ℕ → List Event → List Event → List Shown → Type 0
-ShowsRight files changes task access client start journal shown =
-    (shown ≡ []) ⊎ ((played left : List Line) × (task.body ≡ played ++ left) × (base : Id12) × (own : Changes) × IsSession files changes task access client start journal played shown base own)
+ShowsRight files changes task access client start journal shown = (shown ≡ []) ⊎ ShowsLines files changes task access client start journal shown
 
 -- ---- commits
 -- The event, behind this journal, is a commit that took effect, also where its answer was lost: a put of the branch over this version, with a

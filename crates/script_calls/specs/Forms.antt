@@ -133,6 +133,15 @@ commit_of first rest =
 unfoldable pub prop_of : Text → Option Text → Option (Result (Text × Text) ScriptKind)
 prop_of first rest = if first reads codes "prop" then Some (name_and_value rest) else None
 
+-- nothing is left of a line
+abbrev pub nothing : Option Text → Result (Unit {0}) ScriptKind
+nothing None = Ok tt
+nothing (Some rest) = Err k.Word
+
+-- `lease`, and nothing else
+unfoldable pub lease_of : Text → Option Text → Option (Result (Unit {0}) ScriptKind)
+lease_of first rest = if first reads codes "lease" then Some (nothing rest) else None
+
 -- Names of snapshots, and calls on refs.
 
 -- `branch NAME`, `tag NAME` or `id ID`
@@ -179,7 +188,8 @@ form_of first rest =
     (unwrap_or (form c.Read call.Read (read_of first rest))
     (unwrap_or (form c.Commit call.Commit (commit_of first rest))
     (unwrap_or (form c.Ref call.Ref (ref_of first rest))
-    (unwrap_or (form c.Edit (λ v. call.Prop v.0 v.1) (prop_of first rest)) no_form))))
+    (unwrap_or (form c.Edit (λ v. call.Prop v.0 v.1) (prop_of first rest))
+    (unwrap_or (form c.Read (λ _. call.Lease) (lease_of first rest)) no_form)))))
 
 -- Heads.
 

@@ -192,6 +192,8 @@ pub enum Call {
         /// The property's value, any UTF-8.
         value: Boxed<Text>,
     },
+    /// Keeps the session's base by a lease, until the task ends.
+    Lease,
 }
 
 /// The classes of calls: a head takes all lines of a class, or none.
@@ -199,7 +201,7 @@ pub enum Call {
 pub enum Class {
     /// Changes of the tree.
     Edit,
-    /// Looks at the tree.
+    /// Looks at the tree, and leases of the session's base.
     Read,
     /// Commits.
     Commit,

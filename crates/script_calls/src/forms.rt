@@ -6,7 +6,7 @@ ghost use Rattle.script_calls.specs.declared.calls.Call.TheVariants as Call;
 ghost use Rattle.script_calls.specs.declared.calls.Class.TheVariants as Class;
 ghost use Rattle.script_values.specs.Parts.{◌&◌};
 ghost use Rattle.script_values.specs.Values.{text_of, path_of, index_of, bytes_of};
-ghost use Rattle.script_calls.specs.Forms.{taken, lone_path, path_and_text, array_of, path_and_array, path_and_index, chunk_and_bytes, chunk_and_byte, box_of, lone_box, box_and_cells, lone_key, key_and_bytes, node_edit_of, chunk_edit_of, key_edit_of, edit_of, read_of, commit_of, name_and_value, prop_of, ref_of, form, form_of};
+ghost use Rattle.script_calls.specs.Forms.{taken, lone_path, path_and_text, array_of, path_and_array, path_and_index, chunk_and_bytes, chunk_and_byte, box_of, lone_box, box_and_cells, lone_key, key_and_bytes, node_edit_of, chunk_edit_of, key_edit_of, edit_of, read_of, commit_of, name_and_value, prop_of, nothing, lease_of, ref_of, form, form_of};
 
 use crate::calls::{Call, CellBox, Class, EditCall, ReadCall};
 use crate::refs::ref_call;
@@ -450,6 +450,30 @@ fn prop_in(alloc: Global, first: &str, rest: Option<&str>) -> Result<Option<Form
     }))
 }
 
+/// A word behind which nothing stands.
+fn nothing(rest: Option<&str>) -> Result<(), ScriptKind>
+    ensures { result ≡ nothing (seen rest.entry) }
+{
+    match rest {
+        None => Ok(()),
+        Some(_) => Err(ScriptKind::Word),
+    }
+}
+
+/// A line that keeps the session's base.
+#[tactic(auto, unfolding(crate::specs::Forms::lease_of))]
+fn lease_in(first: &str, rest: Option<&str>) -> Option<Form>
+    ensures { result ≡ form Class.Read (λ _. Call.Lease) (lease_of first.now (seen rest.entry)) }
+{
+    match first {
+        "lease" => Some(Form {
+            class: Class::Read,
+            call: nothing(rest).map(|_| Call::Lease),
+        }),
+        _ => None,
+    }
+}
+
 /// A body line by its first word.
 #[tactic(auto, unfolding(crate::specs::Forms::form_of))]
 pub fn form_in(alloc: Global, first: &str, rest: Option<&str>) -> Result<Form, AllocError>
@@ -468,6 +492,9 @@ pub fn form_in(alloc: Global, first: &str, rest: Option<&str>) -> Result<Form, A
         return Ok(form);
     }
     if let Some(form) = prop_in(alloc, first, rest)? {
+        return Ok(form);
+    }
+    if let Some(form) = lease_in(first, rest) {
         return Ok(form);
     }
     Ok(Form {

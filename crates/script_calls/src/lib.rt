@@ -3,7 +3,7 @@
 //! - Heads: `write BRANCH TRIES POLICY`, `read AT`, `refs`, `collect CUTOFF`, `expire CUTOFF FLAGS` and `check`;
 //! - edits: `group PATH`, `array PATH TYPE SHAPE CHUNKS FILL`, `make PATH JSON`, `meta PATH JSON`, `drop PATH`, `set PATH INDEX HEX`,
 //!   `fill PATH INDEX BYTE`, `unset PATH INDEX`, `put PATH FROM TO CELLS`, `zset KEY HEX`, `zdel KEY` and `prop PROPERTY VALUE`;
-//! - looks: `list PATH`, `get PATH`, `chunk PATH INDEX`, `cells PATH FROM TO` and `zget KEY`;
+//! - looks: `list PATH`, `get PATH`, `chunk PATH INDEX`, `cells PATH FROM TO` and `zget KEY`; and `lease`;
 //! - `commit MESSAGE`;
 //! - calls on refs: `branch REF AT`, `reset REF AT`, `unbranch REF`, `tag REF AT`, `untag REF` and `log AT`.
 //!

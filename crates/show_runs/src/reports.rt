@@ -1,6 +1,6 @@
 //! Reports of runs. ` | ` stands between the opening, the tasks and the refs. A task is a name, what it showed and how it ended:
 //! `c - refused 10 NoNode`; `a 2=/,13:array=/a/b done` showed a group and an array in the lines 2 and 13, and
-//! `b 7:log=ID+unit=kelvin done` a snapshot of a log with a property, `b 8:cells=10+-1 done` numbers of cells; `d - collected 3 2 1 40` collected, and `e - stopped 7 3 2 1 40 StoreFault` was refused in the line 7 behind so many removals; of `f - expired`
+//! `b 7:log=ID+unit=kelvin done` a snapshot of a log with a property, `b 8:cells=10+-1 done` numbers of cells, and `b 7:lease=ID,8:lease=ID+StoreFault done` a lease that was released and one that was left; `d - collected 3 2 1 40` collected, and `e - stopped 7 3 2 1 40 StoreFault` was refused in the line 7 behind so many removals; of `f - expired`
 //! the rest is in `expiries`, and of `k - checked` in `checks`; `g - indoubt 1CECHNKREP0F1RSTCMT0 unsettled Missing ..` was left in doubt. `; ` stands between tasks, and `, ` between refs like `tag v 1=1CECHNKREP0F1RSTCMT0`. In the place of an
 //! opening that went well stands `-`, and a refusal may stand in that of the refs, behind `!`.
 
@@ -55,13 +55,27 @@ fn cells_of(alloc: Global, words: &str) -> Result<Items<i128>, NoAnswer> {
     Ok(numbers)
 }
 
-/// What a word shows: `13:array=/a/b` a node, `8:cells=10+-1` numbers of cells, `7:log=ID` a snapshot of a log.
+/// A lease, by its id, and behind a plus sign why it was left, if it was.
+fn lease_of(alloc: Global, line: u32, words: &str) -> Result<Shown, NoAnswer> {
+    let (id, why) = parted(words, "+");
+    let id = id_of(id)?;
+    let left = match why {
+        "" => None,
+        why => Some(refusal_of(alloc, why)?),
+    };
+    Ok(Shown::Lease { line, id, left })
+}
+
+/// What a word shows: `13:array=/a/b` a node, `8:cells=10+-1` numbers of cells, `7:log=ID` a snapshot of a log, `7:lease=ID` a lease.
 fn shown_of(alloc: Global, word: &str) -> Result<Shown, NoAnswer> {
     let (place, what) = parted(word, "=");
     let (line, kind) = parted(place, ":");
     let line = small_number_of(line)?;
     if kind == "log" {
         return logged_of(alloc, line, what);
+    }
+    if kind == "lease" {
+        return lease_of(alloc, line, what);
     }
     if kind == "cells" {
         let numbers = cells_of(alloc, what)?;

@@ -170,6 +170,7 @@ fn push_call(told: &mut String, call: &Call) -> Result<(), AllocError> {
         Call::Commit { message } => push_commit(told, message.as_str()),
         Call::Ref(call) => push_ref(told, call),
         Call::Prop { name, value } => push_prop(told, name.as_str(), value.as_str()),
+        Call::Lease => told.push_str("lease"),
     }
 }
 

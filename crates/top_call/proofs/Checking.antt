@@ -24,7 +24,7 @@ use Rattle.top_call.specs.declared.statuses.Status.TheVariants as S
 use Rattle.top_call.specs.Telling.{causes}
 use Rattle.top_call.specs.Check.{DidCheck, Checks, check_alone, StaysSound}
 use Rattle.top_call.proofs.Rows.{rows-all}
-use Rattle.top_call.proofs.Tellings.{end-failed, wrote-rose}
+use Rattle.top_call.proofs.Tellings.{outcome-failed, wrote-rose}
 use Rattle.top_call.proofs.Lasts.{IsLast, status-last}
 
 -- ---- the journal
@@ -91,7 +91,7 @@ module _ (s t : View) (x y : OutputAt) where
   store-rose : DidCheck s t x y S.StoreFault → Rose s.faults t.faults
   store-rose d =
       let given = causes d.told.unwritten (why_ended d.outcome) in
-      d.checked.blames (sym (end-failed d.outcome.end) ∙ ((rows-all given).store_fault.0 (sym d.told.status_is)).1)
+      d.checked.blames (sym (outcome-failed d.outcome) ∙ ((rows-all given).store_fault.0 (sym d.told.status_is)).1)
 
   sink-rose : DidCheck s t x y S.WriteFault → Rose x.faults y.faults
   sink-rose d =

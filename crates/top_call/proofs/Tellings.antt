@@ -21,7 +21,9 @@ use Rattle.play_outcome.specs.declared.outcome.End.{End}
 use Rattle.play_outcome.specs.declared.outcome.End.TheVariants as E
 use Rattle.play_outcome.specs.declared.outcome.Outcome.{Outcome}
 use Rattle.play_outcome.specs.declared.outcome.RefLine.{RefLine}
-use Rattle.play_outcome.specs.Ending.{end_failed, is_failed}
+use Rattle.play_outcome.specs.declared.outcome.Shown.{Shown}
+use Rattle.play_outcome.specs.declared.outcome.Shown.TheVariants as Line
+use Rattle.play_outcome.specs.Ending.{end_failed, is_failed, left_failed, shows_failed}
 use Rattle.play_script.specs.Well.{IsWell}
 use Rattle.run_promise.specs.Law.{PromiseLaw}
 use Rattle.play_report.specs.Report.{report_of}
@@ -30,7 +32,7 @@ use Rattle.top_call.specs.declared.statuses.Causes.{Causes}
 use Rattle.top_call.specs.declared.statuses.Status.{Status}
 use Rattle.top_call.specs.declared.statuses.Status.TheVariants as S
 use Rattle.top_call.specs.Statuses.{status_of}
-use Rattle.play_outcome.specs.Ending.{end_why, why_ended}
+use Rattle.play_outcome.specs.Ending.{end_why, why_ended, why_left}
 use Rattle.top_call.specs.Telling.{why_of, refusals, is_other, causes, line_text, IsText, Told, KeepsAll, IsRegular}
 use Rattle.top_call.specs.inside.Adding.{added, all_added}
 use Rattle.top_call.proofs.Rows.{rows-all}
@@ -94,7 +96,7 @@ record HasFailed (outcomes : List Outcome) : Type 0 where
   pub at : slice_get outcomes place ≡ Some outcome
   pub failed : is_failed outcome ≡ true
 
-pub end-failed : (end : End) → list_any is_fault (end_why end) ≡ end_failed end
+end-failed : (end : End) → list_any is_fault (end_why end) ≡ end_failed end
 end-failed (E.Committed id) = refl
 end-failed (E.Collected removed) = refl
 end-failed E.Done = refl
@@ -106,6 +108,29 @@ end-failed (E.Expired line cases (Err why)) = or-false (is_fault why)
 end-failed (E.Checked line faults (Ok counts)) = refl
 end-failed (E.Checked line faults (Err why)) = or-false (is_fault why)
 
+-- a lease that was left tells a fault where its refusal is one
+left-failed : (s : Shown) → list_any is_fault (why_left s) ≡ left_failed s
+left-failed (Line.Node line array path) = refl
+left-failed (Line.Meta line text) = refl
+left-failed (Line.Chunk line bytes) = refl
+left-failed (Line.Fill line) = refl
+left-failed (Line.Cells line numbers) = refl
+left-failed (Line.Key line bytes) = refl
+left-failed (Line.Log line id flushed_at message props) = refl
+left-failed (Line.Lease line id None) = refl
+left-failed (Line.Lease line id (Some why)) = or-false (is_fault why)
+
+all-left-failed : (shown : List Shown) → list_any is_fault (flat_map why_left shown) ≡ shows_failed shown
+all-left-failed [] = refl
+all-left-failed (s ∷ ss) =
+    list_any-append is_fault (why_left s) (flat_map why_left ss)
+    ∙ (ap (λ (b : Bool). b || list_any is_fault (flat_map why_left ss)) (left-failed s) ∙ ap (λ (b : Bool). left_failed s || b) (all-left-failed ss))
+
+pub outcome-failed : (o : Outcome) → list_any is_fault (why_ended o) ≡ is_failed o
+outcome-failed o =
+    list_any-append is_fault (flat_map why_left o.shown) (end_why o.end)
+    ∙ (ap (λ (b : Bool). b || list_any is_fault (end_why o.end)) (all-left-failed o.shown) ∙ ap (λ (b : Bool). shows_failed o.shown || b) (end-failed o.end))
+
 or-cases : (a b : Bool) → (a || b) ≡ true → (a ≡ true) ⊎ (b ≡ true)
 or-cases true b e = inl refl
 or-cases false b e = inr e
@@ -113,7 +138,7 @@ or-cases false b e = inr e
 has-failed : (outcomes : List Outcome) → list_any is_fault (flat_map why_ended outcomes) ≡ true → HasFailed outcomes
 has-failed [] e = absurd cc
 has-failed (o ∷ os) e = elim (or-cases (list_any is_fault (why_ended o)) (list_any is_fault (flat_map why_ended os)) (sym (list_any-append is_fault (why_ended o) (flat_map why_ended os)) ∙ e)) [
-  | inl here ↦ record { place = zero; outcome = o; at = refl; failed = sym (end-failed o.end) ∙ here }
+  | inl here ↦ record { place = zero; outcome = o; at = refl; failed = sym (outcome-failed o) ∙ here }
   | inr later ↦ let found = has-failed os later in record { place = suc found.place; outcome = found.outcome; at = found.at; failed = found.failed }
 ]
 

@@ -5,7 +5,7 @@ ghost use Rattle.std.specs.List.{count_by, flat_map};
 ghost use Rattle.drafts.specs.Drafts.{IsBlank, Took};
 ghost use Rattle.grow_script.specs.Summary.{summary_text};
 ghost use Rattle.play_report.specs.Report.{outcome_text, report_of};
-ghost use Rattle.play_outcome.specs.Ending.{end_why, why_ended, why_unsettled};
+ghost use Rattle.play_outcome.specs.Ending.{end_why, why_ended, why_left, why_unsettled};
 ghost use Rattle.store_api.specs.declared.machines.Refusal.TheVariants as Doubts;
 ghost use Rattle.top_call.specs.Telling.{why_of, refusals, causes, is_committed, is_refused, line_text, Told};
 ghost use Rattle.top_call.specs.inside.Adding.{added, all_added};
@@ -17,7 +17,7 @@ use grow_script::Summary;
 use ice_base::Sink;
 use ice_ids::Id12;
 use play_course::Played;
-use play_outcome::{End, How, Outcome, RefLines};
+use play_outcome::{End, How, Outcome, RefLines, Shown};
 use play_report::{add_outcome, add_report};
 use play_script::Task;
 use std::alloc::{AllocError, Global};
@@ -87,12 +87,49 @@ fn add_end(causes: &mut Causes, end: &End)
     }
 }
 
+/// Adds what a lease causes, if it was left.
+fn add_left(causes: &mut Causes, shown: &Shown)
+    ensures { causes.new ≡ all_added causes.old (why_left shown.now) }
+{
+    match shown {
+        Shown::Node { .. }
+        | Shown::Meta { .. }
+        | Shown::Chunk { .. }
+        | Shown::Fill { .. }
+        | Shown::Cells { .. }
+        | Shown::Key { .. }
+        | Shown::Log { .. }
+        | Shown::Lease { left: None, .. } => {}
+        Shown::Lease {
+            left: Some(why),
+            ..
+        } => add(causes, why),
+    }
+}
+
+/// Adds what the leases cause that were left.
+fn add_all_left(causes: &mut Causes, all: &[Shown])
+    ensures { causes.new ≡ all_added causes.old (flat_map why_left all.now) }
+{
+    for shown in all {
+        add_left(causes, shown);
+    }
+}
+
+/// Adds what a task causes: the leases that it left, and its end.
+fn add_task(causes: &mut Causes, outcome: &Outcome)
+    ensures { causes.new ≡ all_added causes.old (why_ended outcome.now) }
+{
+    add_all_left(causes, outcome.shown.as_slice());
+    add_end(causes, &outcome.end);
+}
+
 /// Adds what the refused tasks cause.
 fn add_outcomes(causes: &mut Causes, outcomes: &[Outcome])
     ensures { causes.new ≡ all_added causes.old (flat_map why_ended outcomes.now) }
 {
     for outcome in outcomes {
-        add_end(causes, &outcome.end);
+        add_task(causes, outcome);
     }
 }
 
@@ -132,7 +169,7 @@ fn causes_of_check(outcome: &Outcome, unwritten: bool) -> Causes
         unwritten,
         refused: false,
     };
-    add_end(&mut causes, &outcome.end);
+    add_task(&mut causes, outcome);
     causes
 }
 

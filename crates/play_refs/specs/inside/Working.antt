@@ -10,7 +10,7 @@ use Rattle.script_calls.specs.declared.calls.RefCall.{RefCall}
 use Rattle.play_script.specs.declared.scripts.Line.{Line}
 use Rattle.play_outcome.specs.declared.outcome.Shown.{Shown}
 use Rattle.play_outcome.specs.declared.outcome.Outcome.{Outcome}
-use Rattle.play_outcome.specs.Ending.{is_failed}
+use Rattle.play_outcome.specs.Ending.{ends_failed}
 use Rattle.play_refs.specs.declared.working.RefMaker.{RefMaker}
 use Rattle.play_refs.specs.declared.working.RefMaker.TheVariants as m
 use Rattle.play_refs.specs.declared.working.RefMachine.{RefMachine}
@@ -76,6 +76,11 @@ abbrev pub working_rest : List Line → Working → Play Outcome
 working_rest body (w.Calling line at shown machine) = machine_play line machine (after_ref line shown.items (lines_from body at))
 working_rest body (w.Ended outcome) = Ended outcome
 
+-- the lines that were shown so far
+abbrev pub shown_in : Working → List Shown
+shown_in (w.Calling line at shown machine) = shown.items
+shown_in (w.Ended outcome) = outcome.shown
+
 -- the machine in it has something to do
 abbrev pub is_working : Working → Bool
 is_working (w.Calling line at shown machine) = machine_works machine
@@ -84,7 +89,7 @@ is_working (w.Ended outcome) = true
 -- what lines came to: nothing of the store has failed, and a machine that began has something to do
 abbrev pub is_well : Working → Bool
 is_well (w.Calling line at shown machine) = machine_works machine
-is_well (w.Ended outcome) = not (is_failed outcome)
+is_well (w.Ended outcome) = not (ends_failed outcome)
 
 -- how many steps are left at most, of a body of so many lines
 abbrev pub working_left : ℕ → Working → ℕ

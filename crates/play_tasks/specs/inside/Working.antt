@@ -1,5 +1,5 @@
 -- What a worker has still to do.
-use Rattle.std.specs.Prelude.{◌≡◌, ℕ, zero, suc, ◌+◌, ◌-◌, ◌*◌, ◌^◌, ◌≤◌, ◌++◌, List, drop, Bool, true, false, not, Option, Result, Ok, Err}
+use Rattle.std.specs.Prelude.{◌≡◌, ◌&&◌, nat_lt, vec_len, vec_capacity, ℕ, zero, suc, ◌+◌, ◌-◌, ◌*◌, ◌^◌, ◌≤◌, ◌++◌, List, drop, Bool, true, false, not, Option, Result, Ok, Err}
 use Rattle.ice_ids.specs.declared.Id8.{Id8}
 use Rattle.ice_ids.specs.declared.drawing.AnyIds.{AnyIds}
 use Rattle.conflicts.specs.declared.solving.Policy.{Policy}
@@ -8,7 +8,7 @@ use Rattle.store_api.specs.declared.machines.Refusal.{Refusal}
 use Rattle.store_api.specs.declared.machines.Refusal.TheVariants.{NoMemory, LostRace}
 use Rattle.store_api.specs.Program.{Done, is_ask, is_fault}
 use Rattle.store_api.specs.Running.{Program}
-use Rattle.store_api.specs.Plays.{Play, Ended, Or, call, Comes}
+use Rattle.store_api.specs.Plays.{Play, Ended, Ask, Or, call, Comes}
 use Rattle.array_region.specs.declared.plans.Region.{Region}
 use Rattle.array_region.specs.Getting.{region_rest, region_left, region_session}
 use Rattle.array_region.specs.Filling.{region_set_rest, region_set_left}
@@ -19,6 +19,8 @@ use Rattle.session.specs.Setting.{set_rest, set_left}
 use Rattle.session.specs.Getting.{get_rest, get_left, get_session}
 use Rattle.commit_path.specs.Committing.{session_in, message_in, commit_rest, commit_left}
 use Rattle.settle.specs.inside.Working.{settle_rest, settle_left}
+use Rattle.leases.specs.Resting.{lease_rest, lease_left}
+use Rattle.leases.specs.Following.{followed}
 use Rattle.rebase.specs.declared.machine.Rebased.{Rebased}
 use Rattle.rebase.specs.declared.machine.Rebased.TheVariants.{OnHead, UpToDate}
 use Rattle.rebase.specs.Rebasing.{rebase_program, rebase_rest, rebase_left}
@@ -26,7 +28,7 @@ use Rattle.script_calls.specs.declared.calls.Access.{Access}
 use Rattle.script_calls.specs.declared.calls.CellBox.{CellBox}
 use Rattle.play_outcome.specs.declared.outcome.Shown.{Shown}
 use Rattle.play_outcome.specs.declared.outcome.Outcome.{Outcome}
-use Rattle.play_outcome.specs.Ending.{is_failed}
+use Rattle.play_outcome.specs.Ending.{ends_failed}
 use Rattle.play_outcome.specs.Playing.{refused}
 use Rattle.play_tasks.specs.declared.working.SessionTask.{SessionTask}
 use Rattle.play_tasks.specs.declared.working.Working.{Working}
@@ -35,8 +37,8 @@ use Rattle.play_tasks.specs.declared.working.AskedFor.{AskedFor}
 use Rattle.play_tasks.specs.declared.working.AskedFor.TheVariants as asked
 use Rattle.play_tasks.specs.declared.working.Step.{Step}
 use Rattle.play_tasks.specs.declared.working.Step.TheVariants as step
-use Rattle.play_tasks.specs.Lines.{Deed, silent, value_shown, chunk_key_shown, cells_shown}
-use Rattle.play_tasks.specs.Playing.{Rest, after_line, shown_by, after_open, after_settling, doubt_play, after_commit, after_rebase, commit_play, play_deed, play_lines}
+use Rattle.play_tasks.specs.Lines.{Deed, silent, value_shown, chunk_key_shown, cells_shown, lease_shown}
+use Rattle.play_tasks.specs.Playing.{Rest, after_line, shown_by, after_open, after_settling, doubt_play, after_commit, after_rebase, after_lease, commit_play, play_deed, play_lines}
 
 -- ---- where a worker stands
 -- the lines of a task from a number on, from 0
@@ -69,28 +71,49 @@ abbrev pub rebased_session : Rebased → SessionState
 rebased_session (OnHead s count) = s
 rebased_session (UpToDate s) = s
 
+-- a player has an operation left
+abbrev pub is_live : {A : Type 0} → Play A → Bool
+is_live (Ended a) = false
+is_live (Ask op starved next) = true
+is_live (Or p q) = false
+
 abbrev pub working_rest : SessionTask → Working → Play Outcome
 working_rest task (w.Opening opener) = call (open_rest opener) (after_open task.access.now task.line task.body.now)
 working_rest task (w.Setting line at shown set) = call (set_rest set) (after_set line shown.items (lines_from task at))
 working_rest task (w.Getting line at for shown get) = call (get_rest get) (after_get (shown_for for line) line shown.items (get_session get) (lines_from task at))
 working_rest task (w.Putting line at shown set) = call (region_set_rest set) (after_set line shown.items (lines_from task at))
 working_rest task (w.Gathering line at shown get) = call (region_rest get) (after_get (cells_shown line) line shown.items (region_session get) (lines_from task at))
+working_rest task (w.Leasing line at shown session lease) = followed (lease_rest lease) (after_lease (lease_shown line) line shown.items session (lines_from task at))
 working_rest task (w.Committing line tries shown commit) = call (commit_rest commit) (after_commit line shown (doubt_play shown (session_in commit)) (after_lost tries.left tries.policy line shown (message_in commit) (session_in commit)))
 working_rest task (w.Settling shown id settle) = call (settle_rest settle) (after_settling shown id)
 working_rest task (w.Rebasing line tries shown message rebase) = call (rebase_rest rebase) (after_rebase line shown (commit_play tries.left tries.policy line shown message))
 working_rest task (w.Ended outcome) = Ended outcome
 
--- the machine in it has something to do
+-- the machine in it has something to do; there is room for a lease that is being put
 abbrev pub is_working : Working → Bool
 is_working (w.Opening opener) = is_ask (open_rest opener)
 is_working (w.Setting line at shown set) = is_ask (set_rest set)
 is_working (w.Getting line at for shown get) = is_ask (get_rest get)
 is_working (w.Putting line at shown set) = is_ask (region_set_rest set)
 is_working (w.Gathering line at shown get) = is_ask (region_rest get)
+is_working (w.Leasing line at shown session lease) = is_live (lease_rest lease) && nat_lt (vec_len shown) (vec_capacity shown)
 is_working (w.Committing line tries shown commit) = is_ask (commit_rest commit)
 is_working (w.Settling shown id settle) = is_ask (settle_rest settle)
 is_working (w.Rebasing line tries shown message rebase) = is_ask (rebase_rest rebase)
 is_working (w.Ended outcome) = true
+
+-- the session hasn't ended
+abbrev pub is_open : Working → Bool
+is_open (w.Opening opener) = true
+is_open (w.Setting line at shown set) = true
+is_open (w.Getting line at for shown get) = true
+is_open (w.Putting line at shown set) = true
+is_open (w.Gathering line at shown get) = true
+is_open (w.Leasing line at shown session lease) = true
+is_open (w.Committing line tries shown commit) = true
+is_open (w.Settling shown id settle) = true
+is_open (w.Rebasing line tries shown message rebase) = true
+is_open (w.Ended outcome) = false
 
 -- ---- how many steps are left
 -- no settling takes more steps, no commit with its settling, and no rebase and the commit behind it
@@ -114,6 +137,7 @@ machine_left (w.Setting line at shown set) = set_left set
 machine_left (w.Getting line at for shown get) = get_left get
 machine_left (w.Putting line at shown set) = region_set_left set
 machine_left (w.Gathering line at shown get) = region_left get
+machine_left (w.Leasing line at shown session lease) = lease_left lease
 machine_left (w.Committing line tries shown commit) = tries.left * try_steps + commit_left commit + settle_steps
 machine_left (w.Settling shown id settle) = settle_left settle
 machine_left (w.Rebasing line tries shown message rebase) = tries.left * try_steps + commit_steps + rebase_left rebase
@@ -126,6 +150,7 @@ lines_left lines (w.Setting line at shown set) = lines - at
 lines_left lines (w.Getting line at for shown get) = lines - at
 lines_left lines (w.Putting line at shown set) = lines - at
 lines_left lines (w.Gathering line at shown get) = lines - at
+lines_left lines (w.Leasing line at shown session lease) = lines - at
 lines_left lines (w.Committing line tries shown commit) = 0
 lines_left lines (w.Settling shown id settle) = 0
 lines_left lines (w.Rebasing line tries shown message rebase) = 0
@@ -184,10 +209,11 @@ is_well (w.Setting line at shown set) = is_ask (set_rest set)
 is_well (w.Getting line at for shown get) = is_ask (get_rest get)
 is_well (w.Putting line at shown set) = is_ask (region_set_rest set)
 is_well (w.Gathering line at shown get) = is_ask (region_rest get)
+is_well (w.Leasing line at shown session lease) = is_live (lease_rest lease) && nat_lt (vec_len shown) (vec_capacity shown)
 is_well (w.Committing line tries shown commit) = is_ask (commit_rest commit)
 is_well (w.Settling shown id settle) = false
 is_well (w.Rebasing line tries shown message rebase) = is_ask (rebase_rest rebase)
-is_well (w.Ended outcome) = not (is_failed outcome)
+is_well (w.Ended outcome) = not (ends_failed outcome)
 
 abbrev pub is_clean : Step → Bool
 is_clean (step.On s shown) = true

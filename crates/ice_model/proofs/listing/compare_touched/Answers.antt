@@ -4,4 +4,4 @@ use Rattle.ice_model.specs.Lists.{TouchesAlike}
 use Rattle.ice_model.proofs.listing.compare_touched.Goals as goal
 
 pub returns : goal.returns
-returns c = subst (λ lists. OnOk c.compare_net.result (TouchesAlike lists (changes_of c.args.changes.now) (tree_of c.args.base.now))) c.in_ok-net.ensures c.compare_net.ensures
+returns c = subst (λ lists. OnOk c.compare_net-compared.result (TouchesAlike lists (changes_of c.args.changes.now) (tree_of c.args.base.now))) c.in_ok-net.ensures c.compare_net-compared.ensures

@@ -19,3 +19,6 @@ returns-5 g c = took_as (search rules) (took_none _ _)
 
 pub returns-6 : goal.returns-6
 returns-6 g c = took_as (search rules) (took_none _ _)
+
+pub returns-7 : goal.returns-7
+returns-7 g c = took_as (search rules) (took_none _ _)

@@ -18,6 +18,7 @@ returns c =
       gather = c.region_law.ensures;
       put = c.region_set_law.ensures;
       boxes = c.owning_region_law.ensures;
+      leases = c.lease_law.ensures;
       refs = c.refs_task_law.ensures;
       collect = c.collect_task_law.ensures;
       expire = c.expire_task_law.ensures;

@@ -25,3 +25,6 @@ returns-in-Prop-clause-comes c =
 
 pub returns-in-Prop-clause-bounded : goal.returns-in-Prop-clause-bounded
 returns-in-Prop-clause-bounded c = c.play_prop.ensures.bounded c.args.at
+
+pub returns-in-Lease-clause-comes : goal.returns-in-Lease-clause-comes
+returns-in-Lease-clause-comes c = subst (λ (x : Call). LineComes c.args.access.now c.args.line.now.number c.args.at c.args.shown.items c.args.session (deed c.args.line.now.number x c.args.session) c.play_lease.result) (sym c.in-Lease.is) (c.play_lease.ensures.comes c.args.access.now)

@@ -4,4 +4,4 @@ use Rattle.top_call.proofs.Tellings.{end-causes}
 use Rattle.top_call.proofs.telling.causes_of_check.Goals as goal
 
 pub returns : goal.returns
-returns c = c.add_end.ensures ∙ end-causes c.args.unwritten (why_ended c.args.outcome.now)
+returns c = c.add_task.ensures ∙ end-causes c.args.unwritten (why_ended c.args.outcome.now)

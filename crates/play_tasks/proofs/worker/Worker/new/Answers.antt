@@ -8,7 +8,7 @@ use Rattle.play_expire.specs.Workers.{expiring_rest}
 use Rattle.play_expire.proofs.Stepping.{expiry-begun}
 use Rattle.play_check.specs.Workers.{checking_rest}
 use Rattle.play_check.proofs.Stepping.{check-begun}
-use Rattle.play_tasks.specs.Playing.{session_play, headed_play}
+use Rattle.play_tasks.specs.Playing.{released_play, headed_play}
 use Rattle.play_tasks.specs.inside.Sessions.{session_rest}
 use Rattle.play_tasks.proofs.Begun.{session-begun}
 use Rattle.play_tasks.proofs.worker.Worker.new.Goals as goal
@@ -19,7 +19,7 @@ returns-in_ok-worker-in-Session c =
     let ids = c.args.ids in
     let access = c.in-Session.access in
     let worker = c.in_ok-worker-in-Session.worker in
-    let is = c.in_ok-worker-in-Session.ensures ∙ ap (session_play ids access task.line) c.as_slice-body.ensures in
+    let is = c.in_ok-worker-in-Session.ensures ∙ ap (released_play ids access task.line) c.as_slice-body.ensures in
     subst (λ (head : Head). Comes (headed_play head ids task) (session_rest worker)) (sym c.in-Session.is) (session-begun ids access task.line task.body (session_rest worker) is)
 
 pub returns-in-Collect : goal.returns-in-Collect
