@@ -1,7 +1,7 @@
-use crate::checking::holds;
 use ice_base::Clock;
 use moments::{CutoffFault, WallClock, cutoff_read};
 use std::test::Fail;
+use test_ends::holds;
 
 const CUTOFFS: [(&str, Result<u64, CutoffFault>); 23] = [
     ("12", Ok(12)),

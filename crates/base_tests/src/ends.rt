@@ -1,8 +1,8 @@
 //! The standard ends.
 
-use crate::checking::holds;
 use ice_base::{StdSink, StdSource, read_input, write_whole};
 use std::test::Fail;
+use test_ends::holds;
 
 #[test]
 fn standard_ends(rt: HostRuntime) -> Result<(), Fail> {

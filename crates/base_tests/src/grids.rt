@@ -1,8 +1,8 @@
 //! Bytes of chunks, and places of cells. Their calls ask of the lengths what no word of a case shows.
 
-use crate::checking::{holds, none};
 use std::alloc::Global;
 use std::test::Fail;
+use test_ends::{holds, none};
 use zarr_grid::{cell_place, chunk_bytes};
 
 #[test]

@@ -1,7 +1,7 @@
-use crate::checking::{none, says};
 use grow_script::{Summary, grown_script};
 use std::alloc::Global;
 use std::test::Fail;
+use test_ends::{none, says};
 
 /// Lines of the script for one task, by their numbers from 0 on.
 const LINES: [(usize, Option<&str>); 6] = [

@@ -3,7 +3,6 @@
 ghost use Rattle.std.specs.Prelude.{IfOk, IsTrue, All};
 ghost use Rattle.manifest_index.specs.Extents.{are_low};
 
-use crate::checking::holds;
 use held_manifest::{HeldManifest, PlaceView, hold};
 use ice_base::Bytes;
 use ice_ids::{Id8, Id12};
@@ -12,6 +11,7 @@ use manifest_file::{ManifestFile, Place, write};
 use manifest_index::merge;
 use std::alloc::{AllocError, Global};
 use std::test::Fail;
+use test_ends::holds;
 use zarr_path::Index;
 
 const NODE: Id8 = Id8([0; 8]);

@@ -3,10 +3,10 @@
 ghost use Rattle.std.specs.Prelude.{◌≤◌, IfOk, IsTrue};
 ghost use Rattle.flat_tables.specs.Trees.{is_writable, is_writable_slot};
 
-use crate::checking::holds;
 use flat_tables::{Flat, FlatFault, Slot, Table, Vector, flat_write};
 use std::alloc::{AllocError, Global};
 use std::test::Fail;
+use test_ends::holds;
 
 /// A table that has a table with the number 7 in one byte, and a vector of two tables: one with the text `a`, and one
 /// whose only slot is absent.

@@ -7,11 +7,11 @@ ghost use Rattle.turn_cell.specs.Owners.{IsOwner, all_owners};
 ghost use Rattle.turn_cell.specs.Logs.{Grows};
 ghost use Rattle.turn_cell.specs.Passes.{known, IsPassOf};
 
-use crate::checking::holds;
 use std::alloc::Global;
 use std::sync::Wait;
 use std::test::Fail;
 use std::thread::{Threads, join};
+use test_ends::holds;
 use turn_cell::{Logged, Pass, TurnCell};
 
 // A value with something to do in a turn.

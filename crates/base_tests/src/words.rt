@@ -1,10 +1,10 @@
-use crate::checking::{holds, says as wants};
 use command_words::{
     BoxWords, Command, Location, Topic, UsageFault, Word, WordsFault, complaint_of, location_of,
     read_words,
 };
 use std::alloc::{AllocError, Global};
 use std::test::Fail;
+use test_ends::{holds, says as wants};
 
 fn word(alloc: Global, text: &str) -> Result<Word, AllocError> {
     Ok(Word::new(String::from_str(alloc, text)?))

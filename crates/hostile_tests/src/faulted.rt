@@ -8,7 +8,6 @@ ghost use Rattle.session.specs.Opening.{open_rest};
 ghost use Rattle.session.specs.declared.getting.Getting.TheVariants.{Again};
 ghost use Rattle.rebase.specs.Rebasing.{rebase_rest};
 
-use crate::checking::{holds, says};
 use crate::hostile::{AWAY, FIRST, MANIFEST, NO_MEMBER, NOBODYS, SECOND, left};
 use crate::lying::{Lie, Lying};
 use conflicts::{Pick, Policy};
@@ -23,6 +22,7 @@ use std::sync::Wait;
 use std::test::Fail;
 use std::thread::Threads;
 use store_api::{Part, Refusal, run_machine};
+use test_ends::{holds, says};
 use zarr_path::{Index, Path};
 
 /// What reads a file.

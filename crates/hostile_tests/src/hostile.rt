@@ -1,7 +1,6 @@
 //! Runs over a store that answers anything: each reading path, with bytes and listings that no store with these objects has.
 //! What bytes a file may have is shown by rows of `ice_show`.
 
-use crate::checking::{holds, says};
 use crate::lying::{Lie, Lying};
 use crate::playing::{Asked, report, script};
 use ice_ids::{Draw, Id12};
@@ -11,6 +10,7 @@ use std::sync::Wait;
 use std::test::Fail;
 use std::thread::Threads;
 use store_api::Part;
+use test_ends::{holds, says};
 use top_call::{Ended, run};
 
 /// A script, the lies of its store and the call from which on they hold, and the report.

@@ -1,9 +1,7 @@
 //! Tasks at once: two workers that meet, and sixty-four that commit on one branch.
 
-use crate::checking::{holds, says};
 use crate::gates::Meeting;
 use crate::runs::{Asked, perform, report, script};
-use crate::untold::Untold;
 use ice_base::{Bytes, TickClock};
 use ice_ids::{Draw, Id12};
 use mem_store::{EventRef, MemStore, ReplyRef};
@@ -14,6 +12,8 @@ use std::sync::Wait;
 use std::test::Fail;
 use std::thread::Threads;
 use store_api::{Got, Key, ObjectStore, Op, Over, Polite, StoreFault, Version};
+use test_ends::{holds, says};
+use untold_store::Untold;
 
 const TWO: &str = "task a write main 0 fail\ngroup /\ntask b write main 0 fail\ngroup /\n";
 

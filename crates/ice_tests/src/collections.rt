@@ -1,14 +1,14 @@
 //! A collection, and an expiry, at once beside eight tasks that commit on one branch.
 
 use crate::at_once::left;
-use crate::checking::holds;
 use crate::runs::{report, script};
-use crate::untold::Untold;
 use ice_ids::Draw;
 use std::alloc::Global;
 use std::sync::Wait;
 use std::test::Fail;
 use std::thread::Threads;
+use test_ends::holds;
+use untold_store::Untold;
 
 /// A commit of an array with a chunk, and a chunk that is set and given up, whose object nothing reaches: fifteen operations.
 const BEGUN: &str =

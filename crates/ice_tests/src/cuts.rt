@@ -1,6 +1,5 @@
 //! A program that is killed at each call of one commit that changes something, over a folder in memory.
 
-use crate::checking::holds;
 use crate::folders::MemoryStore;
 use crate::runs::{report, script};
 use folder::MemoryFolder;
@@ -10,6 +9,7 @@ use std::alloc::{AllocError, Global};
 use std::sync::Wait;
 use std::test::Fail;
 use std::thread::Threads;
+use test_ends::holds;
 use top_call::{Ended, run};
 
 /// The first commit.

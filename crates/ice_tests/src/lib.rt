@@ -5,8 +5,6 @@
 #[cfg(test)]
 mod at_once;
 #[cfg(test)]
-mod checking;
-#[cfg(test)]
 mod collections;
 #[cfg(test)]
 mod cuts;
@@ -16,5 +14,3 @@ mod folders;
 mod gates;
 #[cfg(test)]
 mod runs;
-#[cfg(test)]
-mod untold;

@@ -1,8 +1,6 @@
 //! Runs over an empty store in memory that no case of `ice_faults` shows: ends that fail, and other words than `play`.
 
-use crate::checking::{holds, says};
 use crate::gates::Meeting;
-use crate::untold::Untold;
 use command_words::{UsageFault, Word, words_of};
 use ice_base::{ByteSink, ByteSource};
 use ice_ids::Draw;
@@ -11,7 +9,9 @@ use std::alloc::{AllocError, Global};
 use std::sync::Wait;
 use std::test::Fail;
 use std::thread::Threads;
+use test_ends::{holds, says};
 use top_call::{Ended, Status, run};
+use untold_store::Untold;
 
 /// What a run is given: the words behind the program's name, and its ends.
 #[derive(Drop)]

@@ -9,5 +9,3 @@ mod looking;
 mod meanwhile;
 #[cfg(test)]
 mod playing;
-#[cfg(test)]
-mod untold;

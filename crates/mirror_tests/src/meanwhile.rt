@@ -4,14 +4,14 @@ ghost use Rattle.std.specs.Prelude.{◌≡◌, false};
 
 use crate::looking::{is_copied, is_sound, same_at};
 use crate::playing::{made, played};
-use crate::untold::Untold;
 use ice_base::{ByteSink, RefName};
 use ice_ids::Draw;
 use mirror::Mirror;
 use run_mirror::{MirrorEnded, MirrorStatus, run_mirror};
 use std::alloc::Global;
 use std::test::Fail;
-use store_api::{Base, Key};
+use store_api::{Base, CountingStore, Key};
+use untold_store::Untold;
 
 /// What others do meanwhile.
 #[derive(Clone, Copy, PartialEq, Eq)]

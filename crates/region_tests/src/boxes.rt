@@ -2,9 +2,9 @@
 
 use crate::calls::{Opened, region};
 use crate::model::{Case, Model, count_of, position, zeros};
-use crate::untold::went;
 use std::alloc::Global;
 use std::test::Fail;
+use untold_store::went;
 use zarr_path::{Index, Path};
 
 const GROUP: &[u8] = br#"{"zarr_format":3,"node_type":"group"}"#;

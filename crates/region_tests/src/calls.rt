@@ -4,7 +4,6 @@ ghost use Rattle.std.specs.Prelude.{IfSome};
 ghost use Rattle.store_api.specs.Program.{IsAsk};
 ghost use Rattle.commit_path.specs.Committing.{commit_rest};
 
-use crate::untold::{Untold, begun, opened};
 use array_region::{Getting, Numbers, Region, RegionGet, RegionSet, Setting};
 use commit_path::{Commit, Tried};
 use ice_base::Text;
@@ -13,6 +12,7 @@ use session::{Session, Setting as ChunkSetting};
 use std::alloc::Global;
 use std::mem;
 use store_api::{Refusal, run_machine};
+use untold_store::{Untold, begun, opened};
 use zarr_path::{Index, Path};
 
 /// A box of the array at a path.
@@ -140,7 +140,7 @@ impl Drop for Opened {
 impl Opened {
     /// A new repository, and a session to write on its `main`.
     pub(crate) fn new(alloc: Global) -> Option<Opened> {
-        let mut store = begun(alloc)?;
+        let mut store = begun(alloc, Untold::new(alloc))?;
         let session = opened(alloc, Draw::Count.ids(1), &mut store);
         Some(Opened { store, session })
     }

@@ -7,5 +7,3 @@ mod boxes;
 mod calls;
 #[cfg(test)]
 mod model;
-#[cfg(test)]
-mod untold;

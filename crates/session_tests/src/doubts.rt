@@ -4,8 +4,6 @@ ghost use Rattle.std.specs.Prelude.{IfSome};
 ghost use Rattle.store_api.specs.Program.{IsAsk};
 ghost use Rattle.commit_path.specs.Committing.{commit_rest};
 
-use crate::checking::holds;
-use crate::untold::{Untold, begun, opened, went};
 use commit_path::{Commit, Tried};
 use ice_base::{RefName, Text};
 use ice_ids::{Draw, Id12};
@@ -14,6 +12,8 @@ use settle::{Doubt, Settle, Settled};
 use std::alloc::Global;
 use std::test::Fail;
 use store_api::{Refusal, run_machine};
+use test_ends::holds;
+use untold_store::{Untold, begun, opened, went};
 use zarr_path::Path;
 
 const GROUP: &[u8] = br#"{"zarr_format":3,"node_type":"group"}"#;
@@ -96,7 +96,7 @@ fn told_in(alloc: Global, store: &mut Untold) -> Option<[Settled; 3]> {
 
 /// The same, over a new store.
 fn told(alloc: Global) -> Option<[Settled; 3]> {
-    let mut store = begun(alloc, None)?;
+    let mut store = begun(alloc, Untold::new(alloc))?;
     let told = told_in(alloc, &mut store);
     drop(store);
     told

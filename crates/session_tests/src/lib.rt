@@ -3,8 +3,6 @@
 #![tactic(auto)]
 
 #[cfg(test)]
-mod checking;
-#[cfg(test)]
 mod doubts;
 #[cfg(test)]
 mod rebases;
@@ -12,5 +10,3 @@ mod rebases;
 mod refs;
 #[cfg(test)]
 mod sessions;
-#[cfg(test)]
-mod untold;

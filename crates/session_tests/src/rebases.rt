@@ -5,8 +5,6 @@ ghost use Rattle.store_api.specs.Program.{IsAsk};
 ghost use Rattle.commit_path.specs.Committing.{commit_rest};
 ghost use Rattle.rebase.specs.Rebasing.{rebase_rest};
 
-use crate::checking::holds;
-use crate::untold::{Untold, begun, opened, went};
 use commit_path::{Commit, Tried};
 use conflicts::{Pick, Policy};
 use ice_base::Text;
@@ -16,6 +14,8 @@ use session::Session;
 use std::alloc::{AllocError, Global};
 use std::test::Fail;
 use store_api::{Refusal, run_machine};
+use test_ends::holds;
+use untold_store::{Untold, begun, opened, went};
 use zarr_path::Path;
 use zarr_tree::EditFault;
 
@@ -200,7 +200,7 @@ fn second_loses_in(alloc: Global, nodes: u32, store: &mut Untold) -> Option<Carr
 
 /// What a rebase of the session comes to that lost over a tree of so many groups.
 fn second_loses(alloc: Global, nodes: u32) -> Option<Carried> {
-    let mut store = begun(alloc, None)?;
+    let mut store = begun(alloc, Untold::new(alloc))?;
     let carried = second_loses_in(alloc, nodes, &mut store);
     drop(store);
     carried

@@ -1,7 +1,5 @@
 //! A ref that is dropped while all are read.
 
-use crate::checking::holds;
-use crate::untold::{Untold, begun};
 use ice_base::RefName;
 use ice_ids::Id12;
 use play_outcome::{RefLine, RefLines};
@@ -10,6 +8,8 @@ use repository::read_refs;
 use std::alloc::Global;
 use std::test::Fail;
 use store_api::{Key, ObjectStore, Polite, Refusal, Why};
+use test_ends::holds;
+use untold_store::{Untold, begun};
 
 /// The key of the branch `late`.
 fn late(alloc: Global) -> Option<Key> {
@@ -37,7 +37,7 @@ fn puts_late(alloc: Global, store: &mut Untold) -> bool {
 
 /// A repository with the branches `late` and `main`, the first of which is dropped behind a listing.
 fn two_branches(alloc: Global) -> Option<Untold> {
-    let mut store = begun(alloc, late(alloc))?;
+    let mut store = begun(alloc, Untold::dropping(alloc, late(alloc)?))?;
     let put = puts_late(alloc, &mut store);
     put.then_some(store)
 }

@@ -1,12 +1,12 @@
 //! Sessions whose ids run out.
 
-use crate::checking::holds;
-use crate::untold::{begun, opened, went};
 use ice_ids::{AnyIds, CountIds, Id8};
 use session::Session;
 use std::alloc::Global;
 use std::test::Fail;
 use store_api::Refusal;
+use test_ends::holds;
+use untold_store::{Untold, begun, opened, went};
 use zarr_path::Path;
 use zarr_tree::EditFault;
 
@@ -14,7 +14,7 @@ const GROUP: &[u8] = br#"{"zarr_format":3,"node_type":"group"}"#;
 
 /// A session to write on `main` of an empty repository, if it was opened.
 fn with_ids(alloc: Global, ids: AnyIds) -> Option<Session> {
-    let mut store = begun(alloc, None)?;
+    let mut store = begun(alloc, Untold::new(alloc))?;
     let session = opened(alloc, ids, &mut store);
     drop(store);
     session

@@ -1,7 +1,7 @@
 //! Files of the system that break, and what the store over them says and leaves.
 
 use crate::calls::{Answering, Call, Counts, answers, branch, fails, made_on};
-use crate::checking::{holds, made, none, removed};
+use crate::folders::{made, removed};
 use crate::stores::{HostStore, claim_at};
 use dir_store::DirStore;
 use ice_base::TickClock;
@@ -14,6 +14,7 @@ use std::rt::Files;
 use std::test::Fail;
 use std::{fs, io};
 use store_api::{Got, Key, Over, Part, Reply, StoreFault};
+use test_ends::{holds, none};
 
 /// The number of the calls so far, and of the last call that made a folder in the directory itself, and
 /// that flushed it.

@@ -1,7 +1,7 @@
 //! The directory as a store, its claims, and its opening.
 
 use crate::calls::{Call, branch, fails, told};
-use crate::checking::{holds, made, removed, says};
+use crate::folders::{made, removed};
 use crate::stores::{HostStore, claim_at};
 use dir_store::{Claim, OpenFault};
 use ice_base::TickClock;
@@ -9,6 +9,7 @@ use ice_ids::Id12;
 use std::test::Fail;
 use std::{fs, io};
 use store_api::{Key, Part, StoreFault};
+use test_ends::{holds, says};
 
 /// What operations on a key answer in the directory at this path.
 pub(crate) fn told_at(

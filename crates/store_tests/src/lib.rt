@@ -7,9 +7,9 @@ mod breaking;
 #[cfg(test)]
 mod calls;
 #[cfg(test)]
-mod checking;
-#[cfg(test)]
 mod directories;
+#[cfg(test)]
+mod folders;
 #[cfg(test)]
 mod memory;
 #[cfg(test)]

@@ -1,12 +1,12 @@
 //! Stores in memory: a journal of many events, and a clock that goes back.
 
-use crate::checking::holds;
 use ice_base::{Clock, RefName, TickClock};
 use ice_ids::Id12;
 use mem_store::MemStore;
 use std::alloc::Global;
 use std::test::Fail;
 use store_api::{Got, Key, ObjectStore, Polite, StoreFault, Version, Why};
+use test_ends::holds;
 
 /// The key of a chunk; the keys ascend with the number.
 fn chunk(number: u32) -> Key {

@@ -1,11 +1,12 @@
 //! Objects that are put once, in a directory.
 
 use crate::calls::Call;
-use crate::checking::{holds, made, removed, says};
 use crate::directories::told_at;
+use crate::folders::{made, removed};
 use ice_ids::Id12;
 use std::test::Fail;
 use store_api::Key;
+use test_ends::{holds, says};
 
 /// What operations on a chunk answer in a fresh directory.
 fn chunk_told(rt: HostRuntime, path: &str) -> Option<String> {

@@ -1,7 +1,7 @@
 //! Objects of many sizes, through all six operations: in a directory, with a reopening between, and over a folder in memory.
 
 use crate::calls::{Answering, Call, add_calls, told};
-use crate::checking::{made, none, removed};
+use crate::folders::{made, removed};
 use crate::stores::{HostStore, MemoryStore};
 use dir_store::content_version;
 use folder::MemoryFolder;
@@ -10,6 +10,7 @@ use ice_ids::Id12;
 use std::alloc::{AllocError, Global};
 use std::test::Fail;
 use store_api::{Got, Key, Part, Reply, Version};
+use test_ends::none;
 
 /// Nothing, a byte, one less than is read at once, as much, one more, and some pieces.
 const SIZES: [usize; 6] = [0, 1, 4095, 4096, 4097, 9000];

@@ -1,41 +1,61 @@
 //! A store in memory that tells no journal.
 
-ghost use Rattle.std.specs.Prelude.{false, refl, [], IfSome};
-ghost use Rattle.mem_store.specs.Memory.{sole, client_of};
-ghost use Rattle.store_api.specs.Program.{IsAsk};
-ghost use Rattle.session.specs.Opening.{open_rest};
+ghost use Rattle.std.specs.Prelude.{◌≡◌, false, refl, [], length, Some, None};
+ghost use Rattle.mem_store.specs.Memory.{journal_of, client_of};
+ghost use Rattle.untold_store.specs.Untold.{memory_of, late_of, view_of};
 
-use ice_base::{RefName, TickClock};
-use ice_ids::AnyIds;
+use ice_base::TickClock;
 use mem_store::MemStore;
-use repository::begin;
-use session::{Open, Session};
 use std::alloc::Global;
 use store_api::{
-    Gone, GoneAt, Got, Key, Listed, New, ObjectStore, Over, Part, Refusal, Rule, StoreFault,
-    Version, Viewed, WholeStore, Why, run_machine,
+    CountingStore, Gone, GoneAt, Got, Key, Listed, New, ObjectStore, Over, Part, Rule, StoreFault,
+    Version, Viewed, WholeStore, Why,
 };
 
 /// A store in memory that tells nothing of its journal, so that a call over it asks nothing of what was done before. Behind
 /// each listing it drops what stands at a key, if one is named.
 #[derive(Drop)]
-pub(crate) struct Untold {
+pub struct Untold {
     memory: MemStore<TickClock>,
     late: Option<Key>,
 }
 
 impl Untold {
-    /// A store with no objects.
-    pub(crate) fn new(alloc: Global, late: Option<Key>) -> Untold {
+    /// A store with no objects, which drops nothing.
+    pub fn new(alloc: Global) -> Untold
+        ensures journal { journal_of (memory_of result) ≡ [] }
+        ensures client { client_of (memory_of result) ≡ 0 }
+        ensures late { late_of result ≡ None }
+    {
         Untold {
             memory: MemStore::new(alloc, TickClock::new()),
-            late,
+            late: None,
         }
+    }
+
+    /// A store with no objects, which drops what stands at this key behind each listing.
+    pub fn dropping(alloc: Global, late: Key) -> Untold
+        ensures journal { journal_of (memory_of result) ≡ [] }
+        ensures client { client_of (memory_of result) ≡ 0 }
+        ensures late { late_of result ≡ Some late }
+    {
+        Untold {
+            memory: MemStore::new(alloc, TickClock::new()),
+            late: Some(late),
+        }
+    }
+
+    /// The store beneath, which tells its journal.
+    pub fn into_memory(self) -> MemStore<TickClock>
+        ensures { result ≡ memory_of self }
+    {
+        drop(self.late);
+        self.memory
     }
 }
 
 impl Viewed for Untold {
-    ghost view = { λ s. record { caller = record (sole (client_of s.memory)) { tells = false }; seen = []; faults = 0 } };
+    ghost view = { λ s. view_of s };
 }
 
 impl<R: Rule> ObjectStore<R> for Untold {
@@ -86,32 +106,11 @@ impl WholeStore for Untold {
     ghost alone = { λ s. record { low = refl; end = refl } };
 }
 
-/// Whether a call wasn't refused.
-pub(crate) fn went<T: Drop>(done: Result<T, Refusal>) -> bool {
-    let went = done.is_ok();
-    drop(done);
-    went
-}
-
-/// Such a store with a repository in it, if one was begun.
-pub(crate) fn begun(alloc: Global, late: Option<Key>) -> Option<Untold> {
-    let mut store = Untold::new(alloc, late);
-    let begun = went(begin(alloc, &mut store));
-    begun.then_some(store)
-}
-
-/// A session to write on `main`, which draws these ids, if it was opened.
-pub(crate) fn opened(alloc: Global, ids: AnyIds, store: &mut Untold) -> Option<Session> {
-    let mut open = opening(alloc, ids)?;
-    let opened = run_machine(&mut open, store);
-    drop(open);
-    opened.ok()
-}
-
-/// The opening of a session to write on `main`.
-fn opening(alloc: Global, ids: AnyIds) -> Option<Open>
-    ensures { IfSome result (λ machine. IsAsk (open_rest machine)) }
-{
-    let main = RefName::main(alloc).ok()?;
-    Open::write(alloc, main, ids).ok()
+impl CountingStore for Untold {
+    /// How many operations were made on the store beneath, the drops among them: the time of the next one.
+    fn operations(&self) -> u64
+        ensures { result ≡ length (journal_of (memory_of self.now)) }
+    {
+        self.memory.number_of_events() as u64
+    }
 }
