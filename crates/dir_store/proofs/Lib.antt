@@ -1,2 +1,4 @@
 pub mod Answering
 pub mod Leaving
+pub mod Flushing
+pub mod HoldsMore

@@ -2,4 +2,6 @@ pub mod Store
 pub mod Listings
 pub mod Contents
 pub mod Faults
+pub mod Firm
+pub mod Losing
 pub mod inside

@@ -1,5 +1,5 @@
 -- The directory as a store: what is seen of it, and what its answers say of the bytes that they give or were given.
-use Rattle.std.specs.Prelude.{◌≡◌, ◌≢◌, ℕ, List, [], false, Some, None, Result, Ok, Err}
+use Rattle.std.specs.Prelude.{◌≡◌, ◌≢◌, ℕ, List, [], Bool, true, false, Option, Some, None, Result, Ok, Err}
 use Rattle.ice_base.specs.Ends.{raised}
 use Rattle.object_store.specs.declared.events.StoreFault.{StoreFault}
 use Rattle.object_store.specs.declared.events.StoreFault.TheVariants.{Failed, NoMemory}
@@ -15,6 +15,7 @@ use Rattle.object_store.specs.declared.events.Gone.TheVariants as R
 use Rattle.object_store.specs.declared.events.GoneAt.{GoneAt}
 use Rattle.object_store.specs.declared.events.GoneAt.TheVariants as A
 use Rattle.object_store.specs.Callers.{Caller, View}
+use Rattle.dir_store.specs.declared.directory.FirstFault.{FirstFault}
 use Rattle.dir_store.specs.declared.store.FolderStore.{FolderStore}
 use Rattle.whole_files.specs.Places.{root_of as root_in, asides_of as asides_in}
 use Rattle.object_store.specs.declared.keys.Key.{Key}
@@ -44,6 +45,14 @@ tree_of s = s.directory.tree
 abbrev pub clock_of : {F C : Type 0} → FolderStore F C → C
 clock_of s = s.clock
 
+-- the first call on files that failed, if one has
+abbrev pub first_fault_of : {F C : Type 0} → FolderStore F C → Option FirstFault
+first_fault_of s = s.directory.first_fault
+
+-- whether no folder is to be flushed before the next change
+abbrev pub is_settled : {F C : Type 0} → FolderStore F C → Bool
+is_settled s = s.directory.settled
+
 -- a client that isn't told the journal and has every number
 abbrev pub untold : ℕ → Caller
 untold client = record { tells = false; number = client; low = 0; end = None; home = [] }
@@ -55,13 +64,15 @@ untold_view client faults = record { caller = untold client; seen = []; faults =
 abbrev pub view_of : {F C : Type 0} → FolderStore F C → View
 view_of s = untold_view (client_of s) (faults_of s)
 
--- in this directory, for the client 0, with no fault and no operation so far
+-- in this directory, for the client 0, with no fault and no operation so far; no folder is to be flushed
 pub record IsNewIn {F C : Type 0} (path : List ℕ) (clock : C) (s : FolderStore F C) : Type 0 where
   pub root : root_of s ≡ path
   pub client : client_of s ≡ 0
   pub faults : faults_of s ≡ 0
   pub made : operations_of s ≡ 0
   pub keeps : clock_of s ≡ clock
+  pub first : first_fault_of s ≡ None
+  pub settled : is_settled s ≡ true
 
 -- an answer and a failure are one operation more, where a count can hold it, and want of memory is none
 abbrev pub IsMade : {A : Type 0} → Result A StoreFault → ℕ → ℕ → Type 0

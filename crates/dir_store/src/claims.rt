@@ -54,7 +54,7 @@ impl Claim {
     ) -> Result<Claim, OpenFault> {
         list(rt, path)?;
         let claim = lock(rt, path)?;
-        clear(rt, path)?;
+        clear(rt, path, &claim)?;
         Ok(claim)
     }
 }

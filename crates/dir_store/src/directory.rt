@@ -1,13 +1,16 @@
 //! The directory on disk, as it is worked on.
 
-ghost use Rattle.std.specs.Prelude.{◌≡◌, None, Ok, IfOk, OnOk, IsTrue, MatchResult, string_bytes};
+ghost use Rattle.std.specs.Prelude.{◌≡◌, true, false, None, Some, Ok, IfOk, IfErr, OnOk, IsTrue, MatchResult, option_copied, string_bytes};
+ghost use Rattle.std.specs.Option.{option_or};
 ghost use Rattle.folder.specs.Files.{SameBut, NoLooser, Leaves, IsKept, IsChanged};
 ghost use Rattle.whole_files.specs.Places.{root_of, asides_of};
 ghost use Rattle.whole_files.specs.Whole.{SameFiles, OnlyAt, IsOutside, LooserAside, IsLeft, bytes_at};
-ghost use Rattle.whole_files.specs.Changes.{Makes, Replaces, IsMoved, IsNew, IsOver, IsGone};
+ghost use Rattle.whole_files.specs.Changes.{Makes, Replaces, IsMoved, IsNew, IsOver, IsGone, UnlessFailed};
 ghost use Rattle.object_files.specs.Paths.{path_in, aside_folder_in};
 ghost use Rattle.object_files.specs.Versions.{putting_of};
-ghost use Rattle.dir_store.specs.inside.Telling.{as_told, Through, Removed, RemovedVersion};
+ghost use Rattle.dir_store.specs.inside.Telling.{as_told, Through, Removed, RemovedVersion, settled_after};
+ghost use Rattle.dir_store.specs.Faults.{TellsFirst};
+ghost use Rattle.dir_store.specs.Firm.{AreFirmIf};
 ghost use Rattle.dir_store.specs.Listings.{IsListed};
 ghost use Rattle.dir_store.specs.Contents.{object_at, ListsAll};
 ghost use Rattle.object_store.specs.declared.events.StoreFault.TheVariants as StoreFault;
@@ -75,6 +78,8 @@ impl<F: Folder> Directory<F> {
         F: Drop,
         ensures root { IfOk result (λ directory. root_of directory.places ≡ path.now) }
         ensures tree { IfOk result (λ directory. directory.tree ≡ tree) }
+        ensures settled { IfOk result (λ directory. directory.settled ≡ true) }
+        ensures first { IfOk result (λ directory. directory.first_fault ≡ None) }
     {
         let asides = aside_folder(alloc, path)?;
         Ok(Directory {
@@ -95,7 +100,9 @@ impl<F: Folder> Directory<F> {
     }
 
     /// The first call that failed.
-    pub(crate) fn first_fault(&self) -> Option<&FirstFault> {
+    pub(crate) fn first_fault(&self) -> Option<&FirstFault>
+        ensures { option_copied result ≡ self.now.first_fault }
+    {
         self.first_fault.as_ref()
     }
 
@@ -111,16 +118,21 @@ impl<F: Folder> Directory<F> {
     }
 
     /// The path of a part's folder.
-    fn part(&self, part: Part) -> Result<String, StoreFault> {
+    fn part(&self, part: Part) -> Result<String, StoreFault>
+        ensures { IfErr result (λ fault. fault ≡ StoreFault.NoMemory) }
+    {
         let root = self.places.root();
         let folder = folder_of(part);
         or_no_memory(format!(in self.alloc; "{root}/{folder}"))
     }
 
-    /// Keeps a failure, if it is the first.
+    /// Keeps a failure, if it is the first. Folders are to be flushed then.
     fn note(&mut self, path: String, trouble: Trouble)
         ensures tree { self.new.tree ≡ self.old.tree }
         ensures places { self.new.places ≡ self.old.places }
+        ensures settled { self.new.settled ≡ false }
+        ensures first { self.new.first_fault ≡ option_or self.old.first_fault
+            (Some (record { trouble = trouble; path = path })) }
     {
         self.settled = false;
         if self.first_fault.is_none() {
@@ -133,6 +145,8 @@ impl<F: Folder> Directory<F> {
         ensures told { result ≡ as_told done }
         ensures tree { self.new.tree ≡ self.old.tree }
         ensures places { self.new.places ≡ self.old.places }
+        ensures settled { self.new.settled ≡ settled_after self.old.settled done }
+        ensures first { TellsFirst result self.old.first_fault self.new.first_fault }
     {
         match done {
             Ok(value) => Ok(value),
@@ -151,6 +165,11 @@ impl<F: Folder> Directory<F> {
         ensures places { self.new.places ≡ self.old.places }
         ensures left { IsTrue F.tells → Leaves (IsKept (F.files self.old.tree))
             (F.left self.old.tree) (F.left self.new.tree) }
+        ensures settled { OnOk result (self.new.settled ≡ true) }
+        ensures first { self.new.first_fault ≡ self.old.first_fault }
+        ensures kept { IsTrue F.tells → AreFirmIf self.old.settled (F.loose self.old.tree)
+            (root_of self.old.places) → AreFirmIf self.new.settled (F.loose self.new.tree)
+            (root_of self.old.places) }
     {
         if !self.settled {
             flush_all(&mut self.tree, self.alloc, self.places.root())?;
@@ -178,6 +197,12 @@ impl<F: Folder> Directory<F> {
             → Leaves (IsLeft (asides_of self.old.places) path.now
             (IsNew bytes.now (F.files self.old.tree path.now)) (F.files self.old.tree))
             (F.left self.old.tree) (F.left self.new.tree) }
+        ensures settled { OnOk result (self.new.settled ≡ true) }
+        ensures first { self.new.first_fault ≡ self.old.first_fault }
+        ensures kept { IsTrue F.tells → AreFirmIf self.old.settled (F.loose self.old.tree)
+            (root_of self.old.places)
+            → UnlessFailed result (AreFirmIf self.new.settled (F.loose self.new.tree)
+            (root_of self.old.places)) }
     {
         self.settle()?;
         make_file(
@@ -213,6 +238,12 @@ impl<F: Folder> Directory<F> {
             → Leaves (IsLeft (asides_of self.old.places) path.now
             (IsOver putting bytes.now old (F.files self.old.tree path.now)) (F.files self.old.tree))
             (F.left self.old.tree) (F.left self.new.tree) }
+        ensures settled { OnOk result (self.new.settled ≡ true) }
+        ensures first { self.new.first_fault ≡ self.old.first_fault }
+        ensures kept { IsTrue F.tells → AreFirmIf self.old.settled (F.loose self.old.tree)
+            (root_of self.old.places)
+            → UnlessFailed result (AreFirmIf self.new.settled (F.loose self.new.tree)
+            (root_of self.old.places)) }
     {
         self.settle()?;
         replace_file(
@@ -238,6 +269,12 @@ impl<F: Folder> Directory<F> {
         ensures left { IsTrue F.tells
             → Leaves (IsChanged path.now (λ f. f ≡ None) (F.files self.old.tree))
             (F.left self.old.tree) (F.left self.new.tree) }
+        ensures settled { OnOk result (self.new.settled ≡ true) }
+        ensures first { self.new.first_fault ≡ self.old.first_fault }
+        ensures kept { IsTrue F.tells → AreFirmIf self.old.settled (F.loose self.old.tree)
+            (root_of self.old.places)
+            → UnlessFailed result (AreFirmIf self.new.settled (F.loose self.new.tree)
+            (root_of self.old.places)) }
     {
         self.settle()?;
         Ok(remove_file(&mut self.tree, self.places.root(), path)?)
@@ -261,6 +298,12 @@ impl<F: Folder> Directory<F> {
         ensures left { IsTrue F.tells
             → Leaves (IsChanged path.now (IsGone putting old (F.files self.old.tree path.now))
             (F.files self.old.tree)) (F.left self.old.tree) (F.left self.new.tree) }
+        ensures settled { OnOk result (self.new.settled ≡ true) }
+        ensures first { self.new.first_fault ≡ self.old.first_fault }
+        ensures kept { IsTrue F.tells → AreFirmIf self.old.settled (F.loose self.old.tree)
+            (root_of self.old.places)
+            → UnlessFailed result (AreFirmIf self.new.settled (F.loose self.new.tree)
+            (root_of self.old.places)) }
     {
         self.settle()?;
         Ok(remove_version(&mut self.tree, self.places.root(), putting, path, old)?)
@@ -272,6 +315,10 @@ impl<F: Folder> Directory<F> {
             → IfOk result (λ found. found ≡ bytes_at (F.files self.old.tree (string_bytes path))) }
         ensures tree { self.new.tree ≡ self.old.tree }
         ensures places { self.new.places ≡ self.old.places }
+        ensures first { TellsFirst result self.old.first_fault self.new.first_fault }
+        ensures kept { IsTrue F.tells → AreFirmIf self.old.settled (F.loose self.old.tree)
+            (root_of self.old.places) → AreFirmIf self.new.settled (F.loose self.new.tree)
+            (root_of self.old.places) }
     {
         let read = read_file(&self.tree, self.alloc, path.as_str());
         self.noted(path, read)
@@ -299,6 +346,11 @@ impl<F: Folder> Directory<F> {
             → Leaves (IsLeft (asides_of self.old.places) (string_bytes path)
             (IsNew bytes.now (F.files self.old.tree (string_bytes path))) (F.files self.old.tree))
             (F.left self.old.tree) (F.left self.new.tree) }
+        ensures settled { OnOk result (self.new.settled ≡ true) }
+        ensures first { TellsFirst result self.old.first_fault self.new.first_fault }
+        ensures kept { IsTrue F.tells → AreFirmIf self.old.settled (F.loose self.old.tree)
+            (root_of self.old.places) → AreFirmIf self.new.settled (F.loose self.new.tree)
+            (root_of self.old.places) }
     {
         let made = self.try_make(putting_of(key), path.as_str(), bytes);
         self.noted(path, made)
@@ -328,6 +380,11 @@ impl<F: Folder> Directory<F> {
             → Leaves (IsLeft (asides_of self.old.places) (string_bytes path)
             (IsOver (putting_of key.now) bytes.now old (F.files self.old.tree (string_bytes path)))
             (F.files self.old.tree)) (F.left self.old.tree) (F.left self.new.tree) }
+        ensures settled { OnOk result (self.new.settled ≡ true) }
+        ensures first { TellsFirst result self.old.first_fault self.new.first_fault }
+        ensures kept { IsTrue F.tells → AreFirmIf self.old.settled (F.loose self.old.tree)
+            (root_of self.old.places) → AreFirmIf self.new.settled (F.loose self.new.tree)
+            (root_of self.old.places) }
     {
         let replaced = self.try_replace(putting_of(key), path.as_str(), bytes, old);
         self.noted(path, replaced)
@@ -346,6 +403,11 @@ impl<F: Folder> Directory<F> {
         ensures left { IsTrue F.tells
             → Leaves (IsChanged (string_bytes path) (λ f. f ≡ None) (F.files self.old.tree))
             (F.left self.old.tree) (F.left self.new.tree) }
+        ensures settled { OnOk result (self.new.settled ≡ true) }
+        ensures first { TellsFirst result self.old.first_fault self.new.first_fault }
+        ensures kept { IsTrue F.tells → AreFirmIf self.old.settled (F.loose self.old.tree)
+            (root_of self.old.places) → AreFirmIf self.new.settled (F.loose self.new.tree)
+            (root_of self.old.places) }
     {
         let removed = self.try_remove(path.as_str());
         self.noted(path, removed)
@@ -373,6 +435,11 @@ impl<F: Folder> Directory<F> {
             (IsChanged (string_bytes path)
             (IsGone (putting_of key.now) old (F.files self.old.tree (string_bytes path)))
             (F.files self.old.tree)) (F.left self.old.tree) (F.left self.new.tree) }
+        ensures settled { OnOk result (self.new.settled ≡ true) }
+        ensures first { TellsFirst result self.old.first_fault self.new.first_fault }
+        ensures kept { IsTrue F.tells → AreFirmIf self.old.settled (F.loose self.old.tree)
+            (root_of self.old.places) → AreFirmIf self.new.settled (F.loose self.new.tree)
+            (root_of self.old.places) }
     {
         let removed = self.try_remove_version(putting_of(key), path.as_str(), old);
         self.noted(path, removed)
@@ -386,6 +453,10 @@ impl<F: Folder> Directory<F> {
             part) }
         ensures tree { self.new.tree ≡ self.old.tree }
         ensures places { self.new.places ≡ self.old.places }
+        ensures first { TellsFirst result self.old.first_fault self.new.first_fault }
+        ensures kept { IsTrue F.tells → AreFirmIf self.old.settled (F.loose self.old.tree)
+            (root_of self.old.places) → AreFirmIf self.new.settled (F.loose self.new.tree)
+            (root_of self.old.places) }
     {
         let folder = self.part(part)?;
         match list_files(&self.tree, self.alloc, self.places.root(), part) {

@@ -1,9 +1,11 @@
 //! The directory as a store.
 
-ghost use Rattle.std.specs.Prelude.{◌≡◌, refl, false, IfOk, OnOk, IsTrue};
+ghost use Rattle.std.specs.Prelude.{◌≡◌, refl, true, false, IfOk, OnOk, IsTrue, option_copied};
 ghost use Rattle.object_store.specs.Callers.{Called, Counted, as_client};
-ghost use Rattle.dir_store.specs.Store.{view_of, client_of, faults_of, operations_of, clock_of, tree_of, root_of, asides_of, IsNewIn, IsMade, IsRightGot, IsRightNew, IsRightOver, IsRightGoneAt, time_of_got, time_of_new, time_of_over, time_of_gone, time_of_gone_at};
+ghost use Rattle.dir_store.specs.Store.{view_of, client_of, faults_of, operations_of, clock_of, tree_of, root_of, asides_of, first_fault_of, is_settled, IsNewIn, IsMade, IsRightGot, IsRightNew, IsRightOver, IsRightGoneAt, time_of_got, time_of_new, time_of_over, time_of_gone, time_of_gone_at};
+ghost use Rattle.dir_store.specs.Faults.{TellsFirst};
 ghost use Rattle.dir_store.specs.Listings.{IsListed};
+ghost use Rattle.dir_store.specs.Firm.{AreFirmIf};
 ghost use Rattle.folder.specs.Files.{NoLooser, Leaves};
 ghost use Rattle.whole_files.specs.Whole.{LooserAside};
 ghost use Rattle.dir_store.specs.Contents.{Answers, IsLeftBy, Lasts, object_at, ListsAll};
@@ -118,7 +120,9 @@ impl<F: Folder, C: Clock> FolderStore<F, C> {
     }
 
     /// The first call on files that failed, if one has.
-    pub fn first_fault(&self) -> Option<&FirstFault> {
+    pub fn first_fault(&self) -> Option<&FirstFault>
+        ensures { option_copied result ≡ first_fault_of self.now }
+    {
         self.directory.first_fault()
     }
 
@@ -159,6 +163,10 @@ impl<L: Rule, F: Folder, C: Clock> ObjectStore<L> for FolderStore<F, C> {
         ensures made { IsMade result (operations_of self.old) (operations_of self.new) }
         ensures time { IfOk result (λ got. C.gives (clock_of self.old) (time_of_got got)
             (clock_of self.new)) }
+        ensures first { TellsFirst result (first_fault_of self.old) (first_fault_of self.new) }
+        ensures kept { IsTrue F.tells → AreFirmIf (is_settled self.old) (F.loose (tree_of self.old))
+            (root_of self.old) → AreFirmIf (is_settled self.new) (F.loose (tree_of self.new))
+            (root_of self.old) }
     {
         let path = self.directory.path(key)?;
         let read = self.directory.read(path);
@@ -187,6 +195,11 @@ impl<L: Rule, F: Folder, C: Clock> ObjectStore<L> for FolderStore<F, C> {
             → OnOk result (Lasts (asides_of self.old) (F.loose (tree_of self.old))
             (F.left (tree_of self.new) (F.moment (tree_of self.new)))
             (F.files (tree_of self.new))) }
+        ensures first { TellsFirst result (first_fault_of self.old) (first_fault_of self.new) }
+        ensures settled { OnOk result (is_settled self.new ≡ true) }
+        ensures kept { IsTrue F.tells → AreFirmIf (is_settled self.old) (F.loose (tree_of self.old))
+            (root_of self.old) → AreFirmIf (is_settled self.new) (F.loose (tree_of self.new))
+            (root_of self.old) }
     {
         let path = self.directory.path(key)?;
         let made = self.directory.make(key, path, bytes);
@@ -221,6 +234,11 @@ impl<L: Rule, F: Folder, C: Clock> ObjectStore<L> for FolderStore<F, C> {
             → OnOk result (Lasts (asides_of self.old) (F.loose (tree_of self.old))
             (F.left (tree_of self.new) (F.moment (tree_of self.new)))
             (F.files (tree_of self.new))) }
+        ensures first { TellsFirst result (first_fault_of self.old) (first_fault_of self.new) }
+        ensures settled { OnOk result (is_settled self.new ≡ true) }
+        ensures kept { IsTrue F.tells → AreFirmIf (is_settled self.old) (F.loose (tree_of self.old))
+            (root_of self.old) → AreFirmIf (is_settled self.new) (F.loose (tree_of self.new))
+            (root_of self.old) }
     {
         let path = self.directory.path(key)?;
         let replaced = self.directory.replace(key, path, bytes, old.0);
@@ -247,6 +265,11 @@ impl<L: Rule, F: Folder, C: Clock> ObjectStore<L> for FolderStore<F, C> {
             → OnOk result (Lasts (asides_of self.old) (F.loose (tree_of self.old))
             (F.left (tree_of self.new) (F.moment (tree_of self.new)))
             (F.files (tree_of self.new))) }
+        ensures first { TellsFirst result (first_fault_of self.old) (first_fault_of self.new) }
+        ensures settled { OnOk result (is_settled self.new ≡ true) }
+        ensures kept { IsTrue F.tells → AreFirmIf (is_settled self.old) (F.loose (tree_of self.old))
+            (root_of self.old) → AreFirmIf (is_settled self.new) (F.loose (tree_of self.new))
+            (root_of self.old) }
     {
         let path = self.directory.path(key)?;
         let removed = self.directory.remove(path);
@@ -274,6 +297,11 @@ impl<L: Rule, F: Folder, C: Clock> ObjectStore<L> for FolderStore<F, C> {
             → OnOk result (Lasts (asides_of self.old) (F.loose (tree_of self.old))
             (F.left (tree_of self.new) (F.moment (tree_of self.new)))
             (F.files (tree_of self.new))) }
+        ensures first { TellsFirst result (first_fault_of self.old) (first_fault_of self.new) }
+        ensures settled { OnOk result (is_settled self.new ≡ true) }
+        ensures kept { IsTrue F.tells → AreFirmIf (is_settled self.old) (F.loose (tree_of self.old))
+            (root_of self.old) → AreFirmIf (is_settled self.new) (F.loose (tree_of self.new))
+            (root_of self.old) }
     {
         let path = self.directory.path(key)?;
         let removed = self.directory.remove_version(key, path, old.0);
@@ -294,6 +322,10 @@ impl<L: Rule, F: Folder, C: Clock> ObjectStore<L> for FolderStore<F, C> {
         ensures made { IsMade result (operations_of self.old) (operations_of self.new) }
         ensures time { IfOk result (λ listed. C.gives (clock_of self.old) listed.now
             (clock_of self.new)) }
+        ensures first { TellsFirst result (first_fault_of self.old) (first_fault_of self.new) }
+        ensures kept { IsTrue F.tells → AreFirmIf (is_settled self.old) (F.loose (tree_of self.old))
+            (root_of self.old) → AreFirmIf (is_settled self.new) (F.loose (tree_of self.new))
+            (root_of self.old) }
     {
         let listing = self.directory.list(part);
         let entries = self.counted(listing)?;

@@ -45,3 +45,9 @@ RemovesVersion putting version old new (Err e) = (new ≡ old) ⊎ IsGone puttin
 abbrev pub IsMoved : ℕ → Change → Type 0
 IsMoved version Made = Unit {0}
 IsMoved version (Moved found) = found ≢ Some version
+
+-- this is so unless a call failed
+abbrev pub UnlessFailed : {A : Type 0} → Result A FileFault → Type 0 → Type 0
+UnlessFailed (Ok a) P = P
+UnlessFailed (Err (Failed trouble)) P = Unit {0}
+UnlessFailed (Err NoMemory) P = P

@@ -4,6 +4,7 @@ ghost use Rattle.std.specs.Prelude.{◌≡◌, ◌++◌, [], IfOk, OnOk, IsTrue,
 ghost use Rattle.folder.specs.Files.{SameBut, NoLooser, Leaves, IsKeptBut};
 ghost use Rattle.whole_files.specs.Places.{asides_of};
 ghost use Rattle.whole_files.specs.Whole.{SameFiles, OnlyAside, IsAside, aside_in, LooserAside, IsKeptAside};
+ghost use Rattle.whole_files.specs.Changes.{UnlessFailed};
 
 use crate::known::Known;
 use crate::places::{Places, make_folder};
@@ -59,7 +60,8 @@ fn first_draft<F: Folder>(
     ensures files { IsTrue F.tells → OnlyAside (asides_of places.now) (F.files tree.old)
         (F.files tree.new) }
     ensures firm { IsTrue F.tells
-        → OnOk result (LooserAside (asides_of places.now) (F.loose tree.old) (F.loose tree.new)) }
+        → UnlessFailed result (LooserAside (asides_of places.now) (F.loose tree.old)
+        (F.loose tree.new)) }
     ensures left { IsTrue F.tells → Leaves (IsKeptAside (asides_of places.now) (F.files tree.old))
         (F.left tree.old) (F.left tree.new) }
 {
@@ -81,7 +83,8 @@ fn new_draft<F: Folder>(
     ensures files { IsTrue F.tells → OnlyAside (asides_of places.now) (F.files tree.old)
         (F.files tree.new) }
     ensures firm { IsTrue F.tells
-        → OnOk result (LooserAside (asides_of places.now) (F.loose tree.old) (F.loose tree.new)) }
+        → UnlessFailed result (LooserAside (asides_of places.now) (F.loose tree.old)
+        (F.loose tree.new)) }
     ensures left { IsTrue F.tells → Leaves (IsKeptAside (asides_of places.now) (F.files tree.old))
         (F.left tree.old) (F.left tree.new) }
 {
@@ -132,7 +135,8 @@ pub(crate) fn write_aside<F: Folder>(
     ensures files { IsTrue F.tells → OnlyAside (asides_of places.now) (F.files tree.old)
         (F.files tree.new) }
     ensures firm { IsTrue F.tells
-        → OnOk result (LooserAside (asides_of places.now) (F.loose tree.old) (F.loose tree.new)) }
+        → UnlessFailed result (LooserAside (asides_of places.now) (F.loose tree.old)
+        (F.loose tree.new)) }
     ensures left { IsTrue F.tells → Leaves (IsKeptAside (asides_of places.now) (F.files tree.old))
         (F.left tree.old) (F.left tree.new) }
 {

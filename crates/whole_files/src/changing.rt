@@ -4,7 +4,7 @@ ghost use Rattle.std.specs.Prelude.{◌≡◌, None, Some, IfOk, IfSome, OnOk, I
 ghost use Rattle.folder.specs.Files.{SameBut, SameButTwo, PlacesOver, Removes, IsIn, NoLooser, LooserAt, HasBytes, Leaves, IsChanged, IsPlaced};
 ghost use Rattle.whole_files.specs.Places.{asides_of};
 ghost use Rattle.whole_files.specs.Whole.{SameFiles, OnlyAt, IsOutside, LooserAside, IsLeft, version_at};
-ghost use Rattle.whole_files.specs.Changes.{Makes, Places as PlacesFile, Replaces, RemovesVersion, IsMoved, IsNew, IsOver, IsGone};
+ghost use Rattle.whole_files.specs.Changes.{Makes, Places as PlacesFile, Replaces, RemovesVersion, IsMoved, IsNew, IsOver, IsGone, UnlessFailed};
 
 use crate::asides::write_aside;
 use crate::known::Known;
@@ -104,7 +104,8 @@ pub fn make_file<F: Folder>(
     ensures files { IsTrue F.tells → OnlyAt (asides_of places.now) path.now (F.files tree.old)
         (F.files tree.new) }
     ensures firm { IsTrue F.tells
-        → OnOk result (LooserAside (asides_of places.now) (F.loose tree.old) (F.loose tree.new)) }
+        → UnlessFailed result (LooserAside (asides_of places.now) (F.loose tree.old)
+        (F.loose tree.new)) }
     ensures left { IsTrue F.tells
         → Leaves
         (IsLeft (asides_of places.now) path.now (IsNew bytes.now (F.files tree.old path.now))
@@ -161,7 +162,8 @@ pub fn replace_file<F: Folder>(
     ensures files { IsTrue F.tells → OnlyAt (asides_of places.now) path.now (F.files tree.old)
         (F.files tree.new) }
     ensures firm { IsTrue F.tells
-        → OnOk result (LooserAside (asides_of places.now) (F.loose tree.old) (F.loose tree.new)) }
+        → UnlessFailed result (LooserAside (asides_of places.now) (F.loose tree.old)
+        (F.loose tree.new)) }
     ensures left { IsTrue F.tells
         → Leaves
         (IsLeft (asides_of places.now) path.now

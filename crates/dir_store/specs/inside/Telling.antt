@@ -68,3 +68,10 @@ told_gone_at (C.Moved found) now = A.Moved (option_map as_version found) now
 abbrev pub told_got : Key → Option (List ℕ) → ℕ → Got
 told_got key None now = G.Absent now
 told_got key (Some bytes) now = G.Found bytes (as_version (version_for key bytes)) now
+
+-- ---- what is kept of faults
+-- behind a failure folders are to be flushed
+abbrev pub settled_after : {A : Type 0} → Bool → Result A FileFault → Bool
+settled_after before (Ok a) = before
+settled_after before (Err (F.Failed trouble)) = false
+settled_after before (Err F.NoMemory) = before
