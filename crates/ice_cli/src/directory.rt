@@ -1,7 +1,8 @@
 //! Runs of the program over a directory.
 
-ghost use Rattle.std.specs.Prelude.{◌≡◌};
+ghost use Rattle.std.specs.Prelude.{◌≡◌, ◌⊎◌};
 ghost use Rattle.std.specs.Process.{exit_status};
+ghost use Rattle.ice_cli.specs.Ending.{EndsInDirectory, EndsUnopened};
 
 use crate::running::run_over;
 use crate::system_store::SystemStore;
@@ -46,7 +47,9 @@ fn over_opened<R: Input + Print + Eprint + AllocGlobal + Threads + Wait + Sync +
     rt: &R,
     words: &[Word],
     opened: Directory,
-) -> ExitCode {
+) -> ExitCode
+    ensures { EndsInDirectory words.now result }
+{
     let Opened {
         claim: _claim,
         store,
@@ -65,7 +68,9 @@ pub fn in_directory<R: Input + Print + Eprint + AllocGlobal + Threads + Wait + S
     system: HostRuntime,
     words: &[Word],
     path: &str,
-) -> ExitCode {
+) -> ExitCode
+    ensures { EndsUnopened result ⊎ EndsInDirectory words.now result }
+{
     match open(system, path, WallClock::new(system)) {
         Ok(opened) => over_opened(rt, words, opened),
         Err(OpenFault::NoMemory) => end(rt, &Status::NoMemory),

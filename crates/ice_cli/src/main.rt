@@ -11,30 +11,44 @@ mod streams;
 mod system_store;
 mod telling;
 
-use command_words::{Location, location_of};
+ghost use Rattle.ice_cli.specs.Ending.{EndsByWords};
+
+use command_words::{Location, Word, location_of};
 use directory::in_directory;
 use mirroring::between;
 use running::in_memory;
 use std::process::ExitCode;
+use std::sync::Wait;
+use std::thread::Threads;
 use streams::keep_numbers;
 use telling::end_without_words;
 use top_call::{Status, end, given_words};
 
+/// Does what the words say, where the repository lies that they name, and gives the exit code.
+fn end_by<R: Input + Print + Eprint + AllocGlobal + Threads + Wait + Sync + Copy + Drop>(
+    rt: &R,
+    system: HostRuntime,
+    words: &[Word],
+) -> ExitCode
+    ensures { EndsByWords words.now result }
+{
+    match location_of(rt.alloc(), words) {
+        Ok(Location::Memory) => in_memory(rt, words),
+        Ok(Location::Dir(path)) => match keep_numbers(&system) {
+            Ok(_kept) => in_directory(rt, system, words, path),
+            Err(status) => end(rt, &status),
+        },
+        Ok(Location::Pair(from, to)) => match keep_numbers(&system) {
+            Ok(_kept) => between(rt, system, from, to),
+            Err(status) => end(rt, &status),
+        },
+        Err(_) => end(rt, &Status::NoMemory),
+    }
+}
+
 fn main(rt: HostRuntime) -> ExitCode {
-    let words = match given_words(&rt) {
-        Ok(words) => words,
-        Err(status) => return end_without_words(&rt, &status),
-    };
-    match location_of(rt.alloc(), &words) {
-        Ok(Location::Memory) => in_memory(&rt, &words),
-        Ok(Location::Dir(path)) => match keep_numbers(&rt) {
-            Ok(_kept) => in_directory(&rt, rt, &words, path),
-            Err(status) => end(&rt, &status),
-        },
-        Ok(Location::Pair(from, to)) => match keep_numbers(&rt) {
-            Ok(_kept) => between(&rt, rt, from, to),
-            Err(status) => end(&rt, &status),
-        },
-        Err(_) => end(&rt, &Status::NoMemory),
+    match given_words(&rt) {
+        Ok(words) => end_by(&rt, rt, &words),
+        Err(status) => end_without_words(&rt, &status),
     }
 }

@@ -1,8 +1,9 @@
 //! Mirrors of directories.
 
-ghost use Rattle.std.specs.Prelude.{◌≡◌};
+ghost use Rattle.std.specs.Prelude.{◌≡◌, ◌⊎◌, IfErr};
 ghost use Rattle.run_mirror.specs.Ending.{number_of as mirror_number};
 ghost use Rattle.top_call.specs.Statuses.{number_of};
+ghost use Rattle.ice_cli.specs.Ending.{EndsByMirror, EndsUnopened};
 
 use crate::directory::{Directory, end_without_store, tell_fault, tell_loss};
 use crate::system_store::SystemStore;
@@ -31,7 +32,9 @@ fn over_both<R: Print + Eprint + AllocGlobal + Copy + Drop>(
     rt: &R,
     source: Directory,
     target: Directory,
-) -> ExitCode {
+) -> ExitCode
+    ensures { EndsByMirror result }
+{
     let Opened {
         claim: _source_claim,
         store: from,
@@ -58,7 +61,9 @@ fn over_both<R: Print + Eprint + AllocGlobal + Copy + Drop>(
 }
 
 /// The directory of the system at this path, or the exit code where it can't be opened.
-fn opened<R: Eprint>(rt: &R, system: HostRuntime, path: &str) -> Result<Directory, ExitCode> {
+fn opened<R: Eprint>(rt: &R, system: HostRuntime, path: &str) -> Result<Directory, ExitCode>
+    ensures { IfErr result EndsUnopened }
+{
     match open(system, path, WallClock::new(system)) {
         Ok(opened) => Ok(opened),
         Err(OpenFault::NoMemory) => Err(end(rt, &Status::NoMemory)),
@@ -73,7 +78,9 @@ pub fn between<R: Print + Eprint + AllocGlobal + Copy + Drop>(
     system: HostRuntime,
     from: &str,
     to: &str,
-) -> ExitCode {
+) -> ExitCode
+    ensures { EndsUnopened result ⊎ EndsByMirror result }
+{
     let source = match opened(rt, system, from) {
         Ok(source) => source,
         Err(code) => return code,

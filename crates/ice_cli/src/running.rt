@@ -2,6 +2,7 @@
 
 ghost use Rattle.std.specs.Prelude.{◌≡◌, true};
 ghost use Rattle.store_api.specs.Journal.{IsGoodJournal};
+ghost use Rattle.ice_cli.specs.Ending.{DidWords, EndsInMemory};
 
 use crate::progress::Progress;
 use crate::telling::end_with_words;
@@ -21,6 +22,7 @@ pub fn run_over<
     S: Counting + Send + Drop,
 >(rt: &R, words: &[Word], draw: Draw, store: S) -> Ended<S>
     requires good { S.tells ≡ true → IsGoodJournal (S.view store).seen }
+    ensures { DidWords draw words.now (S.view store) result.status }
 {
     let mut input = StdSource::new(*rt);
     let mut output = StdSink::new(*rt);
@@ -41,7 +43,9 @@ pub fn run_over<
 pub fn in_memory<R: Input + Print + Eprint + AllocGlobal + Threads + Wait + Sync + Copy + Drop>(
     rt: &R,
     words: &[Word],
-) -> ExitCode {
+) -> ExitCode
+    ensures { EndsInMemory words.now result }
+{
     let store = MemStore::new(rt.alloc(), TickClock::new());
     let ended = run_over(rt, words, Draw::Count, store);
     end_with_words(rt, words, &ended.status)

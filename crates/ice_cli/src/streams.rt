@@ -1,6 +1,9 @@
 //! The numbers of standard input, standard output and standard error. Where one of them was closed before the program began,
 //! the system would give its number to the next file that is opened, and what is meant for the stream would stand there.
 
+ghost use Rattle.std.specs.Prelude.{◌≡◌, IfErr};
+ghost use Rattle.ice_cli.specs.Ending.{IsStreamFault};
+
 use std::fs::{File, OpenOptions};
 use std::os::fd::AsFd;
 use top_call::Status;
@@ -24,7 +27,9 @@ fn is_closed<S: AsFd>(stream: &S) -> bool {
 }
 
 /// Takes the lowest free number, where a stream is closed. What is read from it fails, as of a closed stream.
-fn taken(rt: &HostRuntime, closed: bool, fault: Status) -> Result<Option<File>, Status> {
+fn taken(rt: &HostRuntime, closed: bool, fault: Status) -> Result<Option<File>, Status>
+    ensures { IfErr result (λ status. status ≡ fault) }
+{
     if !closed {
         return Ok(None);
     }
@@ -35,7 +40,9 @@ fn taken(rt: &HostRuntime, closed: bool, fault: Status) -> Result<Option<File>, 
 }
 
 /// Keeps the numbers of closed streams taken as long as what it gives is kept. A closed standard output is refused.
-pub fn keep_numbers(rt: &HostRuntime) -> Result<Kept, Status> {
+pub fn keep_numbers(rt: &HostRuntime) -> Result<Kept, Status>
+    ensures { IfErr result IsStreamFault }
+{
     if is_closed(&rt.stdout()) {
         return Err(Status::WriteFault);
     }

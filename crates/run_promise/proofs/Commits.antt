@@ -1,5 +1,5 @@
 -- The commits of a run, and what its tasks showed, in words of trees.
-use Rattle.std.proofs.Common.{◌≡◌, inl, inr, ℕ, ◌+◌, List, [], ◌∷◌, ◌++◌, refl, sym, ◌∙◌, ap, subst, append_assoc}
+use Rattle.std.proofs.Common.{◌≡◌, ◌⊎◌, inl, inr, ℕ, ◌+◌, List, [], ◌∷◌, ◌++◌, refl, sym, ◌∙◌, ap, subst, append_assoc}
 use Rattle.std.proofs.lemmas.List.{append_cancel_left}
 use Rattle.std.specs.Prelude.{Option, Some, None, slice_get}
 use Rattle.ice_ids.specs.declared.Id12.{Id12}
@@ -22,6 +22,7 @@ use Rattle.object_store.specs.declared.events.Event.{Event}
 use Rattle.object_store.specs.Machine.{version_at}
 use Rattle.object_store.proofs.Journals.{Each-at, Each-back}
 use Rattle.store_api.specs.declared.machines.Refusal.{Refusal}
+use Rattle.store_api.specs.declared.machines.Refusal.TheVariants.{LostRace, NoMemory}
 use Rattle.store_api.specs.Journal.{Each, IsGood, puts_of, tree_of}
 use Rattle.repo_read.specs.declared.resolving.At.{At}
 use Rattle.session.specs.Sessions.{SessionState, base_tree, changes_in, overlay}
@@ -42,13 +43,14 @@ use Rattle.script_calls.specs.declared.calls.Head.TheVariants.{Session}
 use Rattle.play_script.specs.declared.scripts.Line.{Line}
 use Rattle.play_script.specs.declared.scripts.Task.{Task}
 use Rattle.play_outcome.specs.declared.outcome.End.{End}
+use Rattle.play_outcome.specs.declared.outcome.End.TheVariants.{Refused}
 use Rattle.play_outcome.specs.declared.outcome.Outcome.{Outcome}
 use Rattle.play_outcome.specs.declared.outcome.Shown.{Shown}
 use Rattle.play_tasks.specs.Lines as line
 use Rattle.play_tasks.specs.Playing.{asked_by, policy_of, placed_shown}
 use Rattle.play_tasks.specs.Solving.{PlaysAll}
 use Rattle.play_tasks.specs.Tasks.{ids_at}
-use Rattle.play_tasks.specs.Telling.{Refuses, IsQuiet, EndsAt, WasOpened}
+use Rattle.play_tasks.specs.Telling.{Refuses, IsQuiet, HasCommitted, WasInDoubt, WasCommitRefused, WasLostAtLast, WasNotRebased, EndsAt, WasOpened}
 use Rattle.play_tasks.proofs.Early.{WasBegun-more}
 use Rattle.play_tasks.proofs.Going.{PlaysAll-append, plays-none}
 use Rattle.run_histories.specs.Told as told
@@ -56,7 +58,7 @@ use Rattle.run_histories.specs.Told.{HasHistories, CommitsEnter}
 use Rattle.run_histories.proofs.Sized.{changes-stay}
 use Rattle.run_promise.specs.Lines.{Plays}
 use Rattle.run_promise.specs.Ways.{Carried}
-use Rattle.run_promise.specs.Promise.{at_of, Began, FoundBranch, FoundTag, IsSession, EndsShowing, ShowsRight, TakesEffect, IsCommit}
+use Rattle.run_promise.specs.Promise.{at_of, Began, FoundBranch, FoundTag, IsSession, EndsShowing, EndsBy, EndsWith, ShowsRight, TakesEffect, IsCommit}
 use Rattle.run_promise.proofs.Bodies.{PlayedOn, plays-on}
 use Rattle.run_promise.proofs.Released.{AreAfter, after-parts, plays-after, end-after}
 use Rattle.run_promise.proofs.Ways.{carried-way}
@@ -257,21 +259,46 @@ ends-showing client access (l ∷ ls) s start last end ended (inl r) = refused-s
 ends-showing client access (l ∷ ls) s start last end ended (inr (inl r)) = inl r.quiet
 ends-showing client access (l ∷ ls) s start last end ended (inr (inr r)) = inl r.quiet
 
+-- where it ends
+at-line : (l : Line) (why : Refusal) (end : End) → end ≡ Refused l.number why → EndsBy l end
+at-line l why end is = subst (λ (e : End). EndsBy l e) (sym is) refl
+
+by-commit : (l : Line) (s : SessionState) (message : List ℕ) → line.deed l.number l.call s ≡ line.Commits message → (own : List ℕ) × (l.call ≡ C.Commit own)
+by-commit l s message e = (message, call-commits l.number l.call s message e)
+
+tried-ends : (client : ℕ) (access : Access) (l : Line) (s at_last : SessionState) (message : List ℕ) (count : ℕ) (start : List Event) (end : End) (ended : List Event) → line.deed l.number l.call s ≡ line.Commits message
+    → HasCommitted client at_last message start end ended
+    ⊎ (WasInDoubt client at_last message start end ended
+    ⊎ (WasCommitRefused client l.number at_last message start end ended
+    ⊎ (WasLostAtLast client access l.number count at_last start end ended ⊎ WasNotRebased client access l.number count at_last start end ended)))
+    → EndsBy l end
+tried-ends client access l s at_last message count start end ended e (inl made) = subst (λ (x : End). EndsBy l x) (sym made.end_is) (by-commit l s message e)
+tried-ends client access l s at_last message count start end ended e (inr (inl doubt)) = subst (λ (x : End). EndsBy l x) (sym doubt.end_is) (by-commit l s message e)
+tried-ends client access l s at_last message count start end ended e (inr (inr (inl refused))) = at-line l refused.why end refused.end_is
+tried-ends client access l s at_last message count start end ended e (inr (inr (inr (inl lost)))) = at-line l (LostRace lost.old lost.found) end lost.end_is
+tried-ends client access l s at_last message count start end ended e (inr (inr (inr (inr stayed)))) = at-line l stayed.why end stayed.end_is
+
+ends-with : (client : ℕ) (access : Access) (left : List Line) (s : SessionState) (start : List Event) (last : List Shown) (end : End) (ended : List Event) → EndsAt client access left s start last end ended → EndsWith left end
+ends-with client access [] s start last end ended t = t.0
+ends-with client access (l ∷ ls) s start last end ended (inl r) = at-line l r.why end r.end_is
+ends-with client access (l ∷ ls) s start last end ended (inr (inl r)) = at-line l NoMemory end r.end_is
+ends-with client access (l ∷ ls) s start last end ended (inr (inr r)) = tried-ends client access l s r.at_last r.message r.count start end ended r.commits r.ends
+
 module _ (initial : InitialLaw) (means : (bytes_at : Place → Option (List ℕ)) → MeansLaw bytes_at) (draw : Draw) (tasks : List Task) (before : ℕ → Changes) (old start ended since : List Event) where
   abbrev entire : List Event
   entire = ended ++ since
 
   -- as the session had ended, and then the leases were released
-  showed-at : (h : HasHistories draw tasks before old start entire) (place : ℕ) (task : Task) (access : Access) (outcome : Outcome) (shown : List Shown) → slice_get tasks place ≡ Some task → task.head ≡ Session access → (w : WasOpened (ids_at draw place) access task (place + 1) start outcome ended) → AreAfter outcome.shown shown
-      → ShowsRight (files_by (tree_of entire)) h.changes task access (place + 1) start entire shown
-  showed-at h place task access outcome shown at head_is w released =
+  showed-at : (h : HasHistories draw tasks before old start entire) (place : ℕ) (task : Task) (access : Access) (went outcome : Outcome) → slice_get tasks place ≡ Some task → task.head ≡ Session access → (w : WasOpened (ids_at draw place) access task (place + 1) start went ended) → AreAfter went.shown outcome.shown → outcome.end ≡ went.end
+      → ShowsRight (files_by (tree_of entire)) h.changes task access (place + 1) start entire outcome
+  showed-at h place task access went outcome at head_is w released same =
       let client : ℕ = place + 1 in
       let good = (Each-back IsGood [] ended since h.sound.good).1 in
       let begun = WasBegun-more client (asked_by access (ids_at draw place)) w.opened start ended since w.begun in
       let read = IsOpened-append w.opened ended since good w.read in
       let plays = PlaysAll-append client w.played w.opened start w.shown w.session ended since good w.plays in
       let session = played-session initial means draw tasks before old start entire h place task at access head_is w.opened begun w.early read w.played w.left w.shown w.session w.body plays in
-      let parts = after-parts w.shown w.last shown (subst (λ (x : List Shown). AreAfter x shown) w.shown_is released) in
+      let parts = after-parts w.shown w.last outcome.shown (subst (λ (x : List Shown). AreAfter x outcome.shown) w.shown_is released) in
       inr (record {
         played = w.played;
         left = w.left;
@@ -282,11 +309,12 @@ module _ (initial : InitialLaw) (means : (bytes_at : Place → Option (List ℕ)
         base = w.session.base;
         own = changes_in (puts_of entire) w.session;
         session = record { head_is = session.head_is; began = session.began; tree = session.tree; has = session.has; plays = plays-after w.played session.tree w.shown parts.0 (apply (changes_in (puts_of entire) w.session) session.tree) parts.3 session.plays };
-        at_last = end-after w.left w.last parts.1 parts.4 (ends-showing client access w.left w.session start w.last outcome.end ended w.ends);
+        at_last = end-after w.left w.last parts.1 parts.4 (ends-showing client access w.left w.session start w.last went.end ended w.ends);
+        ends = subst (λ (e : End). EndsWith w.left e) (sym same) (ends-with client access w.left w.session start w.last went.end ended w.ends);
       })
 
-pub showed : InitialLaw → ((bytes_at : Place → Option (List ℕ)) → MeansLaw bytes_at) → (draw : Draw) (tasks : List Task) (before : ℕ → Changes) (old start new ended since : List Event) (h : HasHistories draw tasks before old start new) → new ≡ ended ++ since → (place : ℕ) (task : Task) (access : Access) (outcome : Outcome) (shown : List Shown)
-    → slice_get tasks place ≡ Some task → task.head ≡ Session access → WasOpened (ids_at draw place) access task (place + 1) start outcome ended → AreAfter outcome.shown shown → ShowsRight (files_by (tree_of new)) h.changes task access (place + 1) start new shown
-showed initial means draw tasks before old start new ended since h is place task access outcome shown at head_is w released =
-    subst (λ (n : List Event). (g : HasHistories draw tasks before old start n) → ShowsRight (files_by (tree_of n)) g.changes task access (place + 1) start n shown) (sym is)
-    (λ g. showed-at initial means draw tasks before old start ended since g place task access outcome shown at head_is w released) h
+pub showed : InitialLaw → ((bytes_at : Place → Option (List ℕ)) → MeansLaw bytes_at) → (draw : Draw) (tasks : List Task) (before : ℕ → Changes) (old start new ended since : List Event) (h : HasHistories draw tasks before old start new) → new ≡ ended ++ since → (place : ℕ) (task : Task) (access : Access) (went outcome : Outcome)
+    → slice_get tasks place ≡ Some task → task.head ≡ Session access → WasOpened (ids_at draw place) access task (place + 1) start went ended → AreAfter went.shown outcome.shown → outcome.end ≡ went.end → ShowsRight (files_by (tree_of new)) h.changes task access (place + 1) start new outcome
+showed initial means draw tasks before old start new ended since h is place task access went outcome at head_is w released same =
+    subst (λ (n : List Event). (g : HasHistories draw tasks before old start n) → ShowsRight (files_by (tree_of n)) g.changes task access (place + 1) start n outcome) (sym is)
+    (λ g. showed-at initial means draw tasks before old start ended since g place task access went outcome at head_is w released same) h

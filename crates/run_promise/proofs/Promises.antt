@@ -1,5 +1,6 @@
 -- A run keeps what is promised.
-use Rattle.std.proofs.Common.{◌≡◌, inl, inr, ℕ, ◌+◌, List, refl, sym, subst}
+use Rattle.std.proofs.Common.{◌≡◌, inl, inr, ℕ, ◌+◌, List, ◌∷◌, ◌++◌, refl, sym, ◌∙◌, ap, subst, append_assoc}
+use Rattle.std.proofs.lemmas.List.{append_cancel_left}
 use Rattle.std.specs.Prelude.{Option, Some, Result, Ok, slice_get}
 use Rattle.ice_ids.specs.declared.Id12.{Id12}
 use Rattle.ice_ids.specs.declared.drawing.Draw.{Draw}
@@ -10,8 +11,9 @@ use Rattle.repo_objects.specs.Laws.{InitialLaw}
 use Rattle.histories.specs.Formats.{files_by}
 use Rattle.object_store.specs.declared.events.Event.{Event}
 use Rattle.object_store.specs.Machine.{version_at}
+use Rattle.object_store.proofs.Journals.{Each-at}
 use Rattle.store_api.specs.declared.machines.Refusal.{Refusal}
-use Rattle.store_api.specs.Journal.{tree_of}
+use Rattle.store_api.specs.Journal.{Each, tree_of}
 use Rattle.rebase.specs.AlongLaws.{MeansLaw}
 use Rattle.script_calls.specs.declared.calls.Access.{Access}
 use Rattle.script_calls.specs.declared.calls.Head.{Head}
@@ -26,6 +28,9 @@ use Rattle.play_tasks.specs.Tasks.{ids_at, TellsAt}
 use Rattle.play_tasks.specs.Telling.{SessionTells, TellsBy}
 use Rattle.run_histories.specs.Told.{HasHistories, RunLaw}
 use Rattle.run_histories.specs.Told as Histories
+use Rattle.run_histories.proofs.Programs.{IsPlain, path-plain, begin-plain}
+use Rattle.run_histories.proofs.Along.{plain-no-commit}
+use Rattle.repository.specs.Beginning.{begin_program}
 use Rattle.repository.specs.Closing.{RefsLaw}
 use Rattle.play_course.specs.Leaving.{TellsEnds}
 use Rattle.play_course.proofs.Leaving.{course-run, course-begun, course-told}
@@ -51,6 +56,19 @@ committed-so trees client id old new c = record {
 }
 
 module _ (initial : InitialLaw) (means : (bytes_at : Place → Option (List ℕ)) → MeansLaw bytes_at) (draw : Draw) (tasks : List Task) (before : ℕ → Changes) (old start new : List Event) (h : HasHistories draw tasks before old start new) where
+  -- the opening commits nothing
+  opening-plain : Each (λ (j : List Event) (e : Event). IsPlain e.op) old h.began.own
+  opening-plain = path-plain begin_program old h.began.own h.began.left begin-plain h.began.path
+
+  uncommitted : (client : ℕ) (id : Id12) → HasCommitted (files_by (tree_of new)) client id old start → ⊥
+  uncommitted client id c =
+      let Plain : List Event → Event → Type 0 = λ j e. IsPlain e.op in
+      let whole : old ++ h.began.own ≡ old ++ (c.since ++ c.event ∷ c.after) =
+      sym h.began.is ∙ c.is ∙ ap (λ (x : List Event). x ++ c.event ∷ c.after) c.before_is ∙ append_assoc old c.since (c.event ∷ c.after) in
+      let own : h.began.own ≡ c.since ++ c.event ∷ c.after = append_cancel_left old h.began.own (c.since ++ c.event ∷ c.after) whole in
+      let plain = Each-at Plain old c.since c.event c.after (subst (Each Plain old) own opening-plain) in
+      plain-no-commit c.event.op c.branch c.takes_effect.bytes (version_at c.old) (inl plain) c.takes_effect.op_is
+
   -- ---- a task that opens a session
   module _ (place : ℕ) (task : Task) (outcome : Outcome) (access : Access) (at : slice_get tasks place ≡ Some task) (head_is : task.head ≡ Session access) where
     abbrev Opens : Type 0
@@ -62,10 +80,10 @@ module _ (initial : InitialLaw) (means : (bytes_at : Place → Option (List ℕ)
     after : (t : Opens) → AreAfter t.session.shown outcome.shown
     after t = released-after (place + 1) t.session.shown t.ended outcome.shown new t.released
 
-    shows : Opens → ShowsRight (files_by (tree_of new)) h.changes task access (place + 1) start new outcome.shown
+    shows : Opens → ShowsRight (files_by (tree_of new)) h.changes task access (place + 1) start new outcome
     shows t = elim t.tells [
-      | inl none ↦ inl (subst (λ (x : List Shown). AreAfter x outcome.shown) none.shown_is (after t))
-      | inr w ↦ showed initial means draw tasks before old start new t.ended t.since h t.is place task access t.session outcome.shown at head_is w (after t)
+      | inl none ↦ inl (record { shown_is = subst (λ (x : List Shown). AreAfter x outcome.shown) none.shown_is (after t); why = none.why; end_is = t.end_is ∙ none.end_is })
+      | inr w ↦ showed initial means draw tasks before old start new t.ended t.since h t.is place task access t.session outcome at head_is w (after t) t.end_is
     ]
 
     -- as the session had ended
@@ -84,6 +102,7 @@ module _ (initial : InitialLaw) (means : (bytes_at : Place → Option (List ℕ)
   keeps outcomes refs told ends_told = record {
     opening = h.began.own;
     start_is = h.began.is;
+    uncommitted = uncommitted;
     lists = h.history;
     stand = h.stand;
     commits = λ since rest event branch version id is e. committed initial means draw tasks before old start new since rest event h is branch version id e;

@@ -100,22 +100,47 @@ pub record LeasedAtLast (left : List Line) (last : List Shown) : Type 0 where
 abbrev pub EndsShowing : List Line → List Shown → Type 0
 EndsShowing left last = (last ≡ []) ⊎ LeasedAtLast left last
 
--- A session of the task showed what the first lines of the task's body show on it, and what the line showed at which it ended.
-pub record ShowsLines (files : Files) (changes : ℕ → Changes) (task : Task) (access : Access) (client : ℕ) (start journal : List Event) (shown : List Shown) : Type 0 where
+-- The task ends by this line: it commits, and the task tells that; or the task was refused there.
+abbrev pub EndsBy : Line → End → Type 0
+EndsBy l (Committed id) = (message : List ℕ) × (l.call ≡ Commit_line message)
+EndsBy l (InDoubt id how) = (message : List ℕ) × (l.call ≡ Commit_line message)
+EndsBy l (Refused line why) = line ≡ l.number
+EndsBy l Done = ⊥
+EndsBy l (Collected removed) = ⊥
+EndsBy l (Stopped line why removed) = ⊥
+EndsBy l (Expired line cases result) = ⊥
+EndsBy l (Checked line faults result) = ⊥
+
+-- how a task ends of whose body these lines are left: it is done where there is none, else it ends by the first of them
+abbrev pub EndsWith : (left : List Line) → End → Type 0
+EndsWith [] end = end ≡ Done
+EndsWith (l ∷ ls) end = EndsBy l end
+
+-- A session of the task showed what the first lines of the task's body show on it, and what the line showed at which it ended. So it is done only
+-- where all lines were played.
+pub record ShowsLines (files : Files) (changes : ℕ → Changes) (task : Task) (access : Access) (client : ℕ) (start journal : List Event) (outcome : Outcome) : Type 0 where
   pub played : List Line
   pub left : List Line
   pub body_is : task.body ≡ played ++ left
   pub first : List Shown
   pub last : List Shown
-  pub shown_is : shown ≡ first ++ last
+  pub shown_is : outcome.shown ≡ first ++ last
   pub base : Id12
   pub own : Changes
   pub session : IsSession files changes task access client start journal played first base own
   pub at_last : EndsShowing left last
+  pub ends : EndsWith left outcome.end
 
--- A task that opens a session showed nothing, as its session wasn't opened; or it showed what the lines of its body show on its session.
-abbrev pub ShowsRight : Files → (ℕ → Changes) → Task → Access → ℕ → List Event → List Event → List Shown → Type 0
-ShowsRight files changes task access client start journal shown = (shown ≡ []) ⊎ ShowsLines files changes task access client start journal shown
+-- The task's session wasn't opened: nothing was shown, and the task was refused at its own line.
+pub record WasUnopened (task : Task) (outcome : Outcome) : Type 0 where
+  pub shown_is : outcome.shown ≡ []
+  pub why : Refusal
+  pub end_is : outcome.end ≡ Refused task.line why
+
+-- A task that opens a session was refused, as its session wasn't opened; or it showed what the lines of its body show on its session, up to where it
+-- ended.
+abbrev pub ShowsRight : Files → (ℕ → Changes) → Task → Access → ℕ → List Event → List Event → Outcome → Type 0
+ShowsRight files changes task access client start journal outcome = WasUnopened task outcome ⊎ ShowsLines files changes task access client start journal outcome
 
 -- ---- commits
 -- The event, behind this journal, is a commit that took effect, also where its answer was lost: a put of the branch over this version, with a
@@ -187,9 +212,10 @@ EndsRight files client (Checked line faults result) start journal = ⊥
 -- Of a run over a journal that was old, whose tasks began at start and ended with these outcomes, nobody else acting; `changes` are those of the commit
 -- at each position.
 pub record Keeps (files : Files) (tasks : List Task) (outcomes : List Outcome) (refs : Result (List RefLine) Refusal) (changes : ℕ → Changes) (old start journal : List Event) : Type 0 where
-  -- the tasks began in the run, behind the opening
+  -- the tasks began in the run, behind the opening, by which no commit took effect
   pub opening : List Event
   pub start_is : start ≡ old ++ opening
+  pub uncommitted : (client : ℕ) (id : Id12) → ¬ HasCommitted files client id old start
   -- each branch's updates form one list: each call on it got the answer of the list, each entry has its snapshot's tree, and each commit the tree of the
   -- entry before it under the commit's changes; and at the end the branches stand so
   pub lists : IsHistory files (applied changes) journal
@@ -197,9 +223,9 @@ pub record Keeps (files : Files) (tasks : List Task) (outcomes : List Outcome) (
   -- each commit of the run that took effect is its session's solved changes on the entry before it
   pub commits : (since rest : List Event) (event : Event) (branch : List ℕ) (version : ℕ) (id : Id12) → journal ≡ (old ++ since) ++ event ∷ rest → TakesEffect files (old ++ since) event branch version id
       → IsCommit files changes tasks start journal (old ++ since) event branch version id
-  -- each read sees its session's base under its own changes
+  -- each read sees its session's base under its own changes, and each task ends where its lines do, or at the one that is told
   pub reads : (place : ℕ) (task : Task) (outcome : Outcome) (access : Access) → slice_get tasks place ≡ Some task → slice_get outcomes place ≡ Some outcome → task.head ≡ Session access
-      → ShowsRight files changes task access (place + 1) start journal outcome.shown
+      → ShowsRight files changes task access (place + 1) start journal outcome
   -- each client commits at most once: two commits of it that took effect are one event
   pub once : (client : ℕ) (id other : Id12) (a : HasCommitted files client id old journal) (b : HasCommitted files client other old journal) → (a.before ≡ b.before) × (a.event ≡ b.event)
   -- and each task ends as it tells

@@ -1,17 +1,21 @@
 -- What is promised of a script that was played.
 use Rattle.std.proofs.Common.{◌≡◌, ◌⊎◌, ℕ, ◌+◌, ◌<◌, ◌^◌, Bool, true, false, cond, List, [], length, take, refl, sym, subst, arith, leb-true, Ok, Err, inl, inr}
-use Rattle.std.specs.Prelude.{IsTrue, nat_le}
+use Rattle.std.specs.Prelude.{IsTrue, nat_le, Result}
 use Rattle.ice_ids.specs.declared.drawing.Draw.{Draw}
 use Rattle.ice_ids.specs.Drawing.{DrawsOnce}
 use Rattle.ice_ids.proofs.Drawn.{count-once}
 use Rattle.zarr_tree.specs.Changes.{none}
 use Rattle.object_store.specs.declared.events.Event.{Event}
+use Rattle.store_api.specs.declared.machines.Refusal.{Refusal}
+use Rattle.store_api.specs.Callers.{View}
 use Rattle.script_values.specs.declared.kinds.ScriptKind.TheVariants.{Long}
 use Rattle.play_script.specs.declared.scripts.Script.{Script}
 use Rattle.play_script.specs.Reading.{empty, feeds, script_of, most_bytes, lines_from}
 use Rattle.script_values.specs.Words.{lines_of}
 use Rattle.play_script.specs.Well.{IsWell}
 use Rattle.play_script.proofs.WellRead.{read_well}
+use Rattle.play_outcome.specs.declared.outcome.Outcome.{Outcome}
+use Rattle.play_course.specs.Course.{Plays}
 use Rattle.play_tasks.specs.Tasks.{ids_at}
 use Rattle.run_histories.specs.Sources.{IsNewRun}
 use Rattle.run_histories.specs.Runs.{IsSound}
@@ -21,7 +25,7 @@ use Rattle.command_words.specs.declared.reading.Command.TheVariants as C
 use Rattle.top_call.specs.declared.statuses.Status.{Status}
 use Rattle.top_call.specs.declared.statuses.Status.TheVariants as S
 use Rattle.top_call.specs.Run.{HasScript}
-use Rattle.top_call.specs.Promise.{World, Spares, WasUnplayed, WherePlayed, Played, Promised, OverSound, KeepsSound, KeepsOwn, SparesOver, SparesSound, SparesOwn}
+use Rattle.top_call.specs.Promise.{World, AreComplete, Spares, WasUnplayed, WherePlayed, Played, Promised, OverSound, KeepsSound, KeepsOwn, SparesOver, SparesSound, SparesOwn}
 use Rattle.top_call.specs.inside.Playing.{WasPlayed, WasRun, IsShort, PlayEnds, Ends}
 
 -- a script that was read is well
@@ -100,15 +104,19 @@ module _ (draw : Draw) (a b : World) where
   unplayed C.Version P u = inl u
 
   -- ---- what is promised of it
+  complete : (script : Script) (begun played : View) (opening : Result (Unit {0}) Refusal) (outcomes : List Outcome) → Plays draw script begun played opening outcomes → AreComplete opening script.tasks outcomes
+  complete script begun played (Ok done) outcomes p = p.size
+  complete script begun played (Err why) outcomes p = p.1
+
   promised : (command : Command) (status : Status) (script : Script) → WasPlayed command draw script a.store b.store a.out b.out status → IsTrue a.store.caller.tells → OverSound draw command a b status script
   promised command status script p tells before sound new =
       let k = p.promise tells before sound new in
-      record { opening = p.opening; outcomes = p.outcomes; refs = p.refs; changes = k.histories.changes; start = p.course.begun.seen; keeps = k.keeps; told = p.told }
+      record { opening = p.opening; outcomes = p.outcomes; refs = p.refs; complete = complete script p.course.begun p.course.played p.opening p.outcomes p.course.plays; changes = k.histories.changes; start = p.course.begun.seen; keeps = k.keeps; told = p.told }
 
   spared : (command : Command) (status : Status) (script : Script) → WasPlayed command draw script a.store b.store a.out b.out status → IsTrue a.store.caller.tells → SparesOver draw command a b status script
   spared command status script p tells before sound new =
       let k = p.promise tells before sound new in
-      record { opening = p.opening; outcomes = p.outcomes; refs = p.refs; start = p.course.begun.seen; needed = k.needed; told = p.told }
+      record { opening = p.opening; outcomes = p.outcomes; refs = p.refs; complete = complete script p.course.begun p.course.played p.opening p.outcomes p.course.plays; start = p.course.begun.seen; needed = k.needed; told = p.told }
 
   pub keeps-sound : (command : Command) (status : Status) → Ends command draw a.input b.input a.store b.store a.out b.out status → KeepsSound draw command a b status
   keeps-sound command status e =

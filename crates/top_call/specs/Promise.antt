@@ -1,5 +1,5 @@
 -- What the top call promises of a script that it played.
-use Rattle.std.specs.Prelude.{◌≡◌, ◌⊎◌, ℕ, List, [], Result, IsTrue}
+use Rattle.std.specs.Prelude.{◌≡◌, ◌⊎◌, ℕ, List, [], length, Result, Ok, Err, IsTrue}
 use Rattle.ice_base.specs.Ends.{InputAt, OutputAt}
 use Rattle.ice_ids.specs.declared.drawing.Draw.{Draw}
 use Rattle.zarr_tree.specs.Changes.{Changes}
@@ -10,6 +10,7 @@ use Rattle.store_api.specs.Journal.{tree_of}
 use Rattle.histories.specs.Files.{Files}
 use Rattle.histories.specs.Formats.{files_by}
 use Rattle.play_script.specs.declared.scripts.Script.{Script}
+use Rattle.play_script.specs.declared.scripts.Task.{Task}
 use Rattle.play_outcome.specs.declared.outcome.Outcome.{Outcome}
 use Rattle.play_outcome.specs.declared.outcome.RefLine.{RefLine}
 use Rattle.play_course.specs.Course.{OnlyBegan}
@@ -30,6 +31,11 @@ pub record World : Type 0 where
   pub store : View
   pub out : OutputAt
 
+-- there is an outcome of each task; where the repository couldn't be begun none was played
+abbrev pub AreComplete : Result (Unit {0}) Refusal → List Task → List Outcome → Type 0
+AreComplete (Ok done) tasks outcomes = length outcomes ≡ length tasks
+AreComplete (Err why) tasks outcomes = outcomes ≡ []
+
 -- The tasks began at some moment, and ended with these outcomes; each branch's updates form one list, each commit that took effect is its session's solved
 -- changes on the entry before it, each read sees its session's base under the session's own changes, each task ends as it tells, and so do the refs.
 -- This was told: the report, or the line of a grown script, and the status of the first cause that holds.
@@ -37,6 +43,7 @@ pub record Promise (files : Files) (command : Command) (script : Script) (a b : 
   pub opening : Result (Unit {0}) Refusal
   pub outcomes : List Outcome
   pub refs : Result (List RefLine) Refusal
+  pub complete : AreComplete opening script.tasks outcomes
   pub changes : ℕ → Changes
   pub start : List Event
   pub keeps : Keeps files script.tasks outcomes refs changes a.store.seen start b.store.seen
@@ -48,6 +55,7 @@ pub record Spares (draw : Draw) (command : Command) (script : Script) (a b : Wor
   pub opening : Result (Unit {0}) Refusal
   pub outcomes : List Outcome
   pub refs : Result (List RefLine) Refusal
+  pub complete : AreComplete opening script.tasks outcomes
   pub start : List Event
   pub needed : KeepsNeeded draw script.tasks outcomes a.store.seen start b.store.seen
   pub told : Told (IsText command script a.store b.store opening outcomes refs) (refusals opening outcomes refs) a.out b.out status

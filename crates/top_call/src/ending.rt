@@ -1,13 +1,15 @@
 //! How the program ends.
 
-ghost use Rattle.std.specs.Prelude.{◌≡◌, IfErr};
+ghost use Rattle.std.specs.Prelude.{◌≡◌, IfErr, MatchResult, map, drop, string_bytes};
 ghost use Rattle.std.specs.Process.{exit_status};
 ghost use Rattle.std.specs.IoError.{error_kind};
+ghost use Rattle.std.specs.Vec.Iter.{into_iter_items};
 ghost use Rattle.top_call.specs.Statuses.{number_of, of_arguments, IsUnread};
 
 use crate::statuses::Status;
 use command_words::{UsageFault, Word, words_of};
-use std::env::Env;
+use std::alloc::Global;
+use std::env::{Args, Env};
 use std::io::ErrorKind;
 use std::process::ExitCode;
 use std::{env, io};
@@ -32,15 +34,27 @@ fn unread_arguments(error: &io::Error) -> Status
     }
 }
 
-/// The words after the program's name. Where the machine doesn't give its arguments, as where one
-/// isn't UTF-8, they are wrong words.
+/// The words after the program's name, of the arguments that the machine gave. Where it gave none, as where one isn't UTF-8,
+/// they are wrong words.
+fn words_given(alloc: Global, given: io::Result<Args>) -> Result<Vec<Word>, Status>
+    ensures words { MatchResult given
+        (λ args. MatchResult result
+        (λ words. words.items ≡ map string_bytes (drop 1 (into_iter_items args)))
+        (λ status. status ≡ Status.NoMemory))
+        (λ error. result ≡ Err (of_arguments (error_kind error))) }
+    ensures unread { IfErr result IsUnread }
+{
+    match given {
+        Ok(args) => Ok(words_of(alloc, args)?),
+        Err(error) => Err(unread_arguments(&error)),
+    }
+}
+
+/// The words after the program's name, as the machine gives its arguments.
 pub fn given_words<R: Env + AllocGlobal>(rt: &R) -> Result<Vec<Word>, Status>
     ensures { IfErr result IsUnread }
 {
-    match env::args(rt) {
-        Ok(args) => Ok(words_of(rt.alloc(), args)?),
-        Err(error) => Err(unread_arguments(&error)),
-    }
+    words_given(rt.alloc(), env::args(rt))
 }
 
 /// Says on standard error how the program ended, where that is told, and gives the exit code. What
