@@ -15,17 +15,19 @@ use Rattle.run_mirror.specs.Ending.{MirrorEnds, number_of as mirror_number}
 use Rattle.top_call.specs.declared.statuses.Status.{Status}
 use Rattle.top_call.specs.declared.statuses.Status.TheVariants as S
 use Rattle.top_call.specs.Statuses.{number_of}
-use Rattle.top_call.specs.Promise.{World, KeepsOwn}
+use Rattle.top_call.specs.Promise.{World, KeepsOwn, SparesOwn}
 use Rattle.top_call.specs.Exact.{Exact}
 
 -- ---- a run over one store
--- Over this store, with some input and output, the command was done exactly as the status tells; and over an empty one what was played keeps the promise.
+-- Over this store, with some input and output, the command was done exactly as the status tells; and over an empty one what was played keeps the promise,
+-- and its collections spare what is needed. (The system's streams tell no bytes, so the input and output are some that fit.)
 pub record Did (draw : Draw) (command : Command) (store : View) (status : Status) : Type 0 where
   pub before : World
   pub after : World
   pub over : before.store ≡ store
   pub exact : Exact draw command before after status
   pub ours : KeepsOwn draw command before after status
+  pub spares : SparesOwn draw command before after status
 
 -- what the words say was done over this store; or they are wrong, and the status tells that
 pub record DidWords (draw : Draw) (words : List (List ℕ)) (store : View) (status : Status) : Type 0 where
