@@ -1,5 +1,5 @@
 -- Boxes that lie in an array.
-use Rattle.std.proofs.Common.{◌≡◌, ◌≤◌, ◌*◌, ◌∙◌, ℕ, ℤ, ◌^◌, Bool, true, false, cond, List, [], ◌∷◌, length, replicate, refl, sym, ap, arith, eq-eqb}
+use Rattle.std.proofs.Common.{◌≡◌, ◌≤◌, ◌*◌, ◌∙◌, ℕ, ℤ, ◌^◌, Bool, true, false, cond, List, [], ◌∷◌, length, replicate, refl, sym, ap, subst, arith, eq-eqb}
 use Rattle.std.specs.Prelude.{◌&&◌, ◌-◌, nat_le, nat_eq, Option, Some, None, option_map, ok_or, Result, Ok, Err}
 use Rattle.std.specs.Int.{div_ceil}
 use Rattle.std.specs.FinMap.{get}
@@ -26,7 +26,7 @@ use Rattle.region_cells.specs.Boxes.{count_of, IsBoxOver}
 use Rattle.region_cells.specs.Walks.{chunks_met, are_at_most, is_in_shape, count_within, most_cells, AreGridded}
 use Rattle.array_region.specs.Planning.{cells_counted, box_count, is_box_of, IsBoxOf}
 use Rattle.array_region.specs.Getting.{Refuses}
-use Rattle.array_region.specs.Reading.{Reads, read_chunks, read_box, read_array, region_program}
+use Rattle.array_region.specs.Reading.{Reads, read_chunks, read_box, read_array, region_program, why_of, no_box, box_refused, ToldOutright, ToldBeside}
 use Rattle.array_region.specs.Writing.{old_chunk, cells_refused, unless_why, write_chunks, write_box, write_array, region_set_program}
 
 -- along a dimension a box ends before 2^32 chunks
@@ -189,8 +189,8 @@ pub record IsRegion (why : Refusal) : Type 0 where
   pub fault : RegionFault
   pub is : why ≡ R.Region fault
 
-pub no_box : (array : ArrayView) (from to : List ℕ) (why : Refusal) → box_count array from to ≡ Err why → IsRegion why
-no_box array from to why e = by_shape (is_in_shape array.shape from to) e
+pub refused_box : (array : ArrayView) (from to : List ℕ) (why : Refusal) → box_count array from to ≡ Err why → IsRegion why
+refused_box array from to why e = by_shape (is_in_shape array.shape from to) e
   where
     by_count : (o : Option ℕ) → cells_counted o ≡ Err why → IsRegion why
     by_count None d = record { fault = F.Large; is = cc }
@@ -268,7 +268,7 @@ module _ (s : SessionState) (path from to : List ℕ) (told : Result (Id8 × Arr
     pub count_refused : (why : Refusal) → count ≡ Err why → Refuses (region_program s path from to) why
     count_refused why c =
         let none = sym counted_is ∙ c in
-        record { is = λ m. no_box_program s path from to id array (sym asked ∙ e) why none; calm = calm_region why (no_box array from to why none) }
+        record { is = λ m. no_box_program s path from to id array (sym asked ∙ e) why none; calm = calm_region why (refused_box array from to why none) }
 
     module _ (n : ℕ) (c : count ≡ Ok n) (copy : ArrayView) (same : copy ≡ array) (grid : (text : List ℕ) (a : ArrayView) → array_in text ≡ Some a → has_grid (size_of a.kind) a.shape a.chunks ≡ true) where
       pub passes : is_box_of copy from to n ≡ true
@@ -292,7 +292,7 @@ module _ (s : SessionState) (path from to : List ℕ) (told : Result (Id8 × Arr
     pub count_unwritten : (why : Refusal) → count ≡ Err why → Refuses (region_set_program s path from to numbers) why
     count_unwritten why c =
         let none = sym counted_is ∙ c in
-        record { is = λ m. no_box_write s path from to numbers w id array (sym asked ∙ e) why none; calm = calm_region why (no_box array from to why none) }
+        record { is = λ m. no_box_write s path from to numbers w id array (sym asked ∙ e) why none; calm = calm_region why (refused_box array from to why none) }
 
     pub planned_write : (n : ℕ) → count ≡ Ok n → (copy : ArrayView) → copy ≡ array
         → region_set_program s path from to numbers
@@ -300,6 +300,27 @@ module _ (s : SessionState) (path from to : List ℕ) (told : Result (Id8 × Arr
     planned_write n c copy same =
         box_write s path from to numbers w id array (sym asked ∙ e) n (sym counted_is ∙ c)
         ∙ sym (ap (λ (a : ArrayView). unless_why (cells_refused a.kind n numbers) (write_chunks (old_chunk s (record { node = id; array = a; path = path; from = from; to = to })) s (record { node = id; array = a; path = path; from = from; to = to }) numbers None (chunks_met a.chunks from to))) same)
+
+-- ---- what is told outright
+pub array_outright : (A : Type 0) (s : SessionState) (path from to : List ℕ) (r : Result (Id8 × ArrayView) Refusal) → r ≡ array_at s path → (why : Refusal) → r ≡ Err why → ToldOutright {A = A} (box_refused s path from to) (Err why)
+array_outright A s path from to r e why f = subst (λ (x : Result (Id8 × ArrayView) Refusal). ToldOutright {A = A} (no_box from to x) (Err why)) (sym f ∙ e) refl
+
+pub count_outright : (A : Type 0) (s : SessionState) (path from to : List ℕ) (r : Result (Id8 × ArrayView) Refusal) → r ≡ array_at s path → (id : Id8) (a : ArrayView) → r ≡ Ok (id, a) → (n : Result ℕ Refusal) → n ≡ box_count a from to → (why : Refusal) → n ≡ Err why → ToldOutright {A = A} (box_refused s path from to) (Err why)
+count_outright A s path from to r e id a f n g why h =
+    subst (λ (x : Result (Id8 × ArrayView) Refusal). ToldOutright {A = A} (no_box from to x) (Err why)) (sym f ∙ e) (subst (λ (y : Result ℕ Refusal). ToldOutright {A = A} (why_of y) (Err why)) (sym h ∙ g) refl)
+
+pub fine_outright : {A : Type 0} (result : Result A Refusal) (s : SessionState) (path from to : List ℕ) (r : Result (Id8 × ArrayView) Refusal) → r ≡ array_at s path → (id : Id8) (a : ArrayView) → r ≡ Ok (id, a) → (n : Result ℕ Refusal) → n ≡ box_count a from to → (count : ℕ) → n ≡ Ok count → ToldOutright (box_refused s path from to) result
+fine_outright result s path from to r e id a f n g count h =
+    subst (λ (x : Result (Id8 × ArrayView) Refusal). ToldOutright (no_box from to x) result) (sym f ∙ e) (subst (λ (y : Result ℕ Refusal). ToldOutright (why_of y) result) (sym h ∙ g) tt)
+
+-- beside the session
+pub told_beside : (A B : Type 0) (o : Option Refusal) (s : SessionState) (why : Refusal) → ToldOutright {A = A} o (Err why) → ToldBeside {A = B} o s (Err (s, why))
+told_beside A B None s why t = tt
+told_beside A B (Some other) s why t = let same : why ≡ other = cc in ap (λ (w : Refusal). Err (s, w)) same
+
+pub fine_beside : {A B : Type 0} (o : Option Refusal) (s : SessionState) (x : A) (result : Result B (SessionState × Refusal)) → ToldOutright {A = A} o (Ok x) → ToldBeside o s result
+fine_beside None s x result t = tt
+fine_beside (Some other) s x result t = absurd (cc)
 
 gridded_ranks : (chunks from to : List ℕ) → AreGridded chunks from to → length from ≡ length to
 gridded_ranks [] [] [] g = refl

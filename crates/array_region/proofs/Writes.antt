@@ -23,7 +23,7 @@ use Rattle.array_region.specs.declared.stages.Found.TheVariants.{Told, Gets}
 use Rattle.array_region.specs.Reading.{Kept, Chunk, Reads, keeping, entered_kept}
 use Rattle.array_region.specs.Getting.{kept_of, chunks_of, reads_of, stage_chunk, stage_index, Finds, Refuses}
 use Rattle.array_region.specs.Writing.{is_covered, old_chunk, bytes_put, write_chunks}
-use Rattle.array_region.specs.Setting.{set_after, box_written, write_rest, run_reads, run_old, run_entered, run_met, run_going, run_rest, run_left, write_stage_left, chunks_left, Stays, SameTree, PutsNext, PlacesOk, Places, Rests, Takes, RunLands}
+use Rattle.array_region.specs.Setting.{set_after, box_written, write_rest, run_reads, run_old, run_entered, run_met, run_going, run_rest, run_left, write_stage_left, chunks_left, KeepsBox, SameTree, PutsNext, PlacesOk, Places, Rests, Takes, RunLands}
 use Rattle.array_region.proofs.Looking.{first_left, none_left}
 
 -- ---- the chunks as they were don't know which ids are drawn
@@ -85,18 +85,18 @@ module _ (new : Run) (p : Program SessionState) (n : PutsNext p new) where
   puts_left = ap write_stage_left n.stage
 
 -- what follows a chunk that was set is the same for a run that stays
-pub stays_after : (old new : Run) → Stays old new → SameTree old.session new.session → (p : Program SessionState)
+pub stays_after : (old new : Run) → KeepsBox old new → SameTree old.session new.session → (p : Program SessionState)
     → set_after p (run_old new) (run_reads new) new.given.numbers.items (kept_of new.kept) (run_met new) ≡ set_after p (run_old old) (run_reads old) old.given.numbers.items (kept_of old.kept) (run_met old)
 stays_after old new s e p =
     ap (λ (f : List ℕ → Kept → Program Chunk). set_after p f (run_reads new) new.given.numbers.items (kept_of new.kept) (run_met new)) (same_old old.session new.session (run_reads new) e)
     ∙ (λ i. set_after p (old_chunk old.session (reads_of (s.given i).plan)) (reads_of (s.given i).plan) (s.given i).numbers.items (kept_of (s.kept i)) (drop (s.at i) (chunks_of (reads_of (s.given i).plan))))
 
 -- so many steps are left
-pub stays_left : (old new : Run) → Stays old new → chunks_left (run_reads new) new.at ≡ chunks_left (run_reads old) old.at
+pub stays_left : (old new : Run) → KeepsBox old new → chunks_left (run_reads new) new.at ≡ chunks_left (run_reads old) old.at
 stays_left old new s = λ i. chunks_left (reads_of (s.given i).plan) (s.at i)
 
 -- ---- a chunk was placed
-module _ (old new : Run) (s : Stays old new) (e : SameTree old.session new.session) (p : Program SessionState) where
+module _ (old new : Run) (s : KeepsBox old new) (e : SameTree old.session new.session) (p : Program SessionState) where
   abbrev then : Program SessionState
   then = set_after p (run_old old) (run_reads old) old.given.numbers.items (kept_of old.kept) (run_met old)
 
@@ -192,7 +192,7 @@ module _ (before now : Run) (at : ℕ) (g : IsGoing before now at) where
     pub look_refused : (why : Refusal) → Refuses next why → Refuses (run_going before) why
     look_refused why f = record { is = λ m. next_asked ∙ ap (λ p. box_written p (run_old now) (run_entered now) r now.given.numbers.items index (drop (at + 1) (chunks_of r))) (f.is m); calm = f.calm }
 
-    module _ (new : Run) (s : Stays beginning new) (e : SameTree now.session new.session) where
+    module _ (new : Run) (s : KeepsBox beginning new) (e : SameTree now.session new.session) where
       pub same_at_last : SameTree before.session new.session
       same_at_last = tree_then before.session now.session new.session g.tree e
 

@@ -48,7 +48,8 @@ state_after run (Ok next.Again) = Runs run
 state_after run (Ok (next.Ready done)) = Ended
 state_after run (Err why) = Refused run.session
 
-abbrev pub answer_after : Run → Result (Next (Unit {0})) Refusal → Result (Next SessionState) Refusal
+abbrev pub answer_after : Run → Result (Next (Unit {0})) Refusal
+    → Result (Next SessionState) Refusal
 answer_after run (Ok next.Again) = Ok next.Again
 answer_after run (Ok (next.Ready done)) = Ok (next.Ready run.session)
 answer_after run (Err why) = Err why
@@ -58,12 +59,16 @@ abbrev pub KeepsTree : Option SessionState → Option SessionState → Type 0
 KeepsTree (Some s) (Some t) = SameTree s t
 KeepsTree _ _ = ⊥
 
--- The box was written without any operation; or a machine has the program to run, and a session with the same tree; or this was refused, memory
--- apart, and the session came back with its tree as it was.
-abbrev pub BeginsSet : Program SessionState → SessionState → Result Setting (SessionState × Refusal) → Type 0
+-- The box was written without any operation; or a machine has the program to run, and
+-- a session with the same tree; or this was refused, memory apart, and the session
+-- came back with its tree as it was.
+abbrev pub BeginsSet : Program SessionState → SessionState
+    → Result Setting (SessionState × Refusal) → Type 0
 BeginsSet p s (Ok (Ready t)) = p ≡ Done (Ok t)
-BeginsSet p s (Ok (Again m)) = (region_set_rest m ≡ p) × IsAsk p × KeepsTree (Some s) (region_set_session m)
-BeginsSet p s (Err refused) = (is_no_memory refused.1 ≡ false → p ≡ Done (Err refused.1)) × SameTree s refused.0
+BeginsSet p s (Ok (Again m)) =
+    (region_set_rest m ≡ p) × IsAsk p × KeepsTree (Some s) (region_set_session m)
+BeginsSet p s (Err refused) =
+    (is_no_memory refused.1 ≡ false → p ≡ Done (Err refused.1)) × SameTree s refused.0
 
 -- a machine has so few steps left
 abbrev pub IsFewSet : Setting → Type 0

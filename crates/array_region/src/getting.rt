@@ -8,7 +8,7 @@ ghost use Rattle.zarr_tree.specs.Nodes.{chunk_length};
 ghost use Rattle.repo_read.specs.Programs.{MayRefuseObject};
 ghost use Rattle.session.specs.Chunks.{read_object};
 ghost use Rattle.session.specs.inside.Working.{LandsCalmly};
-ghost use Rattle.array_region.specs.Reading.{Chunk, object_kept, in_file, got_kept, listed_kept, chunk_kept, read_chunks, region_program};
+ghost use Rattle.array_region.specs.Reading.{Chunk, object_kept, in_file, got_kept, listed_kept, chunk_kept, read_chunks, region_program, box_refused, ToldBeside};
 ghost use Rattle.array_region.specs.Getting.{region_rest, region_left, region_session, reads_of, kept_of, chunks_of, box_after, left_behind, Finds, Looks, Begins, IsFew};
 
 use crate::kept_manifest::KeptManifest;
@@ -63,6 +63,8 @@ impl RegionGet {
         region: Region,
     ) -> Result<Getting, (Session, Refusal)>
         ensures begins { Begins (region_program session region.path region.from.items
+            region.to.items) session result }
+        ensures outright { ToldBeside (box_refused session region.path region.from.items
             region.to.items) session result }
         ensures few { IfOk result IsFew }
         ensures calm { IfErr result (λ refused. is_fault refused.1 ≡ false) }

@@ -1,10 +1,11 @@
 //! Chunks that get their places.
 
-ghost use Rattle.std.specs.Prelude.{◌≡◌, ◌≤◌, ◌<◌, ◌-◌, ◌^◌, [], length, get_or, IfErr};
+ghost use Rattle.std.specs.Prelude.{◌≡◌, ◌≤◌, ◌<◌, ◌-◌, ◌^◌, [], length, get_or, None, Err, IfErr};
+ghost use Rattle.ice_ids.specs.Drawing.{drawn12};
 ghost use Rattle.session.specs.Chunks.{put_chunk, set_program};
 ghost use Rattle.array_region.specs.Getting.{Looks, kept_of, chunks_of};
 ghost use Rattle.array_region.specs.Writing.{bytes_put, old_chunk};
-ghost use Rattle.array_region.specs.Setting.{run_entered, run_reads, Places, Stays, SameTree, MayRefuseWrite};
+ghost use Rattle.array_region.specs.Setting.{run_entered, run_reads, Places, KeepsBox, SameTree, MayRefuseWrite};
 
 use crate::runs::{Run, WriteStage};
 use crate::stages::Found;
@@ -42,7 +43,9 @@ impl Run {
         requires { self.old.stage ≡ WriteStage.Ended }
         ensures places { Places (put_chunk (run_entered self.old) (run_reads self.old).path index
             bytes) self.old self.new result }
-        ensures stays { Stays self.old self.new }
+        ensures spent { 512 < length bytes → drawn12 self.old.session.ids ≡ None
+            → result ≡ Err Refusal.IdsSpent }
+        ensures stays { KeepsBox self.old self.new }
         ensures tree { SameTree self.old.session self.new.session }
         ensures listed { IfErr result MayRefuseWrite }
     {
@@ -66,7 +69,7 @@ impl Run {
         ensures places { Places (set_program (run_entered self.old) (run_reads self.old).path index
             (bytes_put (run_reads self.old) index self.old.given.numbers.items value)) self.old
             self.new result }
-        ensures stays { Stays self.old self.new }
+        ensures stays { KeepsBox self.old self.new }
         ensures tree { SameTree self.old.session self.new.session }
         ensures listed { IfErr result MayRefuseWrite }
     {

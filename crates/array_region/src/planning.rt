@@ -1,6 +1,7 @@
 //! Plans of what is read or written.
 
 ghost use Rattle.array_region.specs.Getting.{Plans};
+ghost use Rattle.array_region.specs.Reading.{box_refused, ToldOutright};
 ghost use Rattle.array_region.specs.Setting.{PlansWrite};
 
 use crate::plans::{Plan, Region, counted};
@@ -13,6 +14,8 @@ use zarr_tree::grid_law;
 pub(crate) fn planned(alloc: Global, session: &Session, region: Region) -> Result<Plan, Refusal>
     ensures reads { Plans session.now region result }
     ensures writes { PlansWrite session.now region result }
+    ensures outright { ToldOutright (box_refused session.now region.path region.from.items
+        region.to.items) result }
 {
     grid_law();
     let found = match session.find_array(&region.path) {

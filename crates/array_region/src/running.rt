@@ -1,13 +1,13 @@
 //! How the writing of a box goes on.
 
-ghost use Rattle.std.specs.Prelude.{◌≡◌, ◌≤◌, ◌<◌, ◌+◌, ◌-◌, ◌^◌, ℕ, List, Ok, length, drop, IfErr};
+ghost use Rattle.std.specs.Prelude.{◌≡◌, ◌≤◌, ◌<◌, ◌+◌, ◌-◌, ◌^◌, ℕ, Bool, List, Ok, Err, length, drop, IfErr};
 ghost use Rattle.store_api.specs.Program.{Done};
 ghost use Rattle.zarr_tree.specs.Nodes.{chunk_length};
 ghost use Rattle.store_api.specs.Running.{Program as TheProgram};
 ghost use Rattle.store_api.specs.Driving.{Awaits};
 ghost use Rattle.array_region.specs.Reading.{Chunk, object_kept, got_kept, listed_kept};
 ghost use Rattle.array_region.specs.Getting.{Finds, kept_of};
-ghost use Rattle.array_region.specs.Setting.{box_written, object_put, set_after, run_entered, run_going, run_met, run_left, run_old, run_reads, run_rest, chunks_left, Rests, RunLands, RunTook, SameTree, Stays, Takes, UnlessReady, MayRefuseWrite};
+ghost use Rattle.array_region.specs.Setting.{box_written, object_put, set_after, run_entered, run_going, run_met, run_left, run_old, run_reads, run_rest, chunks_left, Rests, RunLands, RunTook, SameTree, KeepsBox, Takes, UnlessReady, MayRefuseWrite};
 
 use crate::kept_manifest::KeptManifest;
 use crate::runs::{Run, WriteStage};
@@ -49,7 +49,7 @@ impl Run {
             → Takes (box_written p (run_old self.old) (run_entered self.old) (run_reads self.old)
             self.old.given.numbers.items index (run_met self.old)) (most + 1) self.new result }
         ensures rests { Rests result self.new.stage }
-        ensures stays { Stays self.old self.new }
+        ensures stays { KeepsBox self.old self.new }
         ensures tree { SameTree self.old.session self.new.session }
         ensures listed { IfErr result MayRefuseWrite }
     {
@@ -188,6 +188,8 @@ impl Run {
             (set_after (object_put (run_entered self.old) (run_reads self.old).path index bytes id)
             (run_old self.old) (run_reads self.old) self.old.given.numbers.items
             (kept_of self.old.kept) (run_met self.old)) reply self.new result }
+        ensures failed { (done : Bool) → reply ≡ Reply.Failed done
+            → result ≡ Err Refusal.StoreFault }
         ensures falls { run_left self.new < chunks_left (run_reads self.old) self.old.at + 1 }
         ensures tree { UnlessReady result (SameTree self.old.session self.new.session) }
         ensures listed { IfErr result MayRefuseWrite }

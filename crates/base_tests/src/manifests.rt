@@ -34,8 +34,8 @@ fn change(alloc: Global) -> Result<Vec<(Index, Option<Place>)>, AllocError>
 }
 
 /// The file of a manifest of these chunks, if they make one.
-fn file_of(alloc: Global, change: &[(Index, Option<Place>)]) -> Result<Option<Bytes>, AllocError>
-    requires { All (λ c. IsTrue (are_low c.0)) change.now }
+fn file_of(alloc: Global, change: Vec<(Index, Option<Place>)>) -> Result<Option<Bytes>, AllocError>
+    requires { All (λ c. IsTrue (are_low c.0)) change.items }
 {
     let Some(array) = merge(alloc, 1, NODE, &[], change)? else {
         return Ok(None);
@@ -61,9 +61,7 @@ fn file_of(alloc: Global, change: &[(Index, Option<Place>)]) -> Result<Option<By
 /// The file of the manifest of so many chunks, if they make one.
 fn file(alloc: Global) -> Result<Option<Bytes>, AllocError> {
     let change = change(alloc)?;
-    let file = file_of(alloc, &change);
-    drop(change);
-    file
+    file_of(alloc, change)
 }
 
 /// Whether each of the chunks is found.

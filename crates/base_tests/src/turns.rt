@@ -4,7 +4,7 @@ ghost use Rattle.std.specs.Prelude.{◌≡◌, ℕ, ◌≤◌, ◌<◌, false, [
 ghost use Rattle.std.specs.Thread.{IsSync};
 ghost use Rattle.turn_cell.specs.declared.known.Owners.{Owners};
 ghost use Rattle.turn_cell.specs.Owners.{IsOwner, all_owners};
-ghost use Rattle.turn_cell.specs.Logs.{Grows};
+ghost use Rattle.turn_cell.specs.SeenJournals.{Grows};
 ghost use Rattle.turn_cell.specs.Passes.{known, IsPassOf};
 
 use std::alloc::Global;
@@ -12,10 +12,10 @@ use std::sync::Wait;
 use std::test::Fail;
 use std::thread::{Threads, join};
 use test_ends::holds;
-use turn_cell::{Logged, Pass, TurnCell};
+use turn_cell::{Journaled, Pass, TurnCell};
 
 // A value with something to do in a turn.
-trait Work: Logged {
+trait Work: Journaled {
     fn work(&mut self, number: u32)
         ensures journal { (owners : Owners) → IsOwner owners number
             → Grows Self.owner owners (Self.journal self.old) (Self.journal self.new) }
@@ -26,7 +26,7 @@ trait Work: Logged {
 #[derive(Drop)]
 struct Tally(u64);
 
-impl Logged for Tally {
+impl Journaled for Tally {
     type Entry = u32;
 
     ghost journal = { λ tally. [] };
@@ -48,7 +48,7 @@ struct Diary {
     numbers: Vec<u32>,
 }
 
-impl Logged for Diary {
+impl Journaled for Diary {
     type Entry = u32;
 
     ghost journal = { λ diary. diary.numbers.items };

@@ -9,8 +9,8 @@ use Rattle.std.specs.FinMap.{get, len}
 use Rattle.ice_ids.specs.Text.{same_id8}
 use Rattle.zarr_path.specs.Paths.{same_path, is_path}
 use Rattle.zarr_meta.specs.declared.faults.MetaFault.{MetaFault}
-use Rattle.zarr_meta.specs.declared.views.View.{View}
-use Rattle.zarr_meta.specs.declared.views.View.TheVariants as view
+use Rattle.zarr_meta.specs.declared.views.MetaView.{MetaView}
+use Rattle.zarr_meta.specs.declared.views.MetaView.TheVariants as view
 use Rattle.zarr_meta.specs.Meta.{meta_of}
 use Rattle.zarr_tree.specs.Nodes.{Node, array_of_view, is_metadata}
 use Rattle.zarr_tree.specs.Trees.{Tree}
@@ -78,7 +78,7 @@ are_good at (row ∷ rows) h = elim (row_fault row) as (λ o. row_fault row ≡ 
 ] refl h
 
 -- ---- rows
-metadata_good : (kind : NodeKind) (r : Result View MetaFault) → kind_fault kind r ≡ None → is_some (result_ok r) ≡ true
+metadata_good : (kind : NodeKind) (r : Result MetaView MetaFault) → kind_fault kind r ≡ None → is_some (result_ok r) ≡ true
 metadata_good kind (Ok v) h = refl
 metadata_good kind (Err fault) h = cc
 
@@ -89,7 +89,7 @@ good_metadata row good = metadata_good row.kind (meta_of row.user_data) good
 made_good : (p : Path) (n : Node) (ms : List ManifestRef) → is_metadata n.text ≡ true → IsGood (row_of p n ms)
 made_good p n ms h = by_view (meta_of n.text) h
   where
-    by_view : (r : Result View MetaFault) → is_some (result_ok r) ≡ true → kind_fault (kind_of (array_of_view (result_ok r)) ms) r ≡ None
+    by_view : (r : Result MetaView MetaFault) → is_some (result_ok r) ≡ true → kind_fault (kind_of (array_of_view (result_ok r)) ms) r ≡ None
     by_view (Ok view.Group) h = refl
     by_view (Ok (view.Array array)) h = refl
     by_view (Err fault) h = cc

@@ -7,13 +7,13 @@ use Rattle.std.proofs.lemmas.Slice.Eq.{bytes_eq-Decides}
 use Rattle.ice_ids.specs.Text.{same_id8}
 use Rattle.ice_ids.proofs.TextLaws.{same_id8-true}
 use Rattle.zarr_meta.specs.declared.views.ArrayView.{ArrayView}
-use Rattle.zarr_meta.specs.declared.views.View.{View}
-use Rattle.zarr_meta.specs.declared.views.View.TheVariants as view
+use Rattle.zarr_meta.specs.declared.views.MetaView.{MetaView}
+use Rattle.zarr_meta.specs.declared.views.MetaView.TheVariants as view
 use Rattle.zarr_meta.specs.Meta.{view_in}
 use Rattle.zarr_tree.specs.declared.edit.Frozen.{Frozen}
 use Rattle.zarr_tree.specs.Nodes.{Node, SameFrozen, array_of_view, array_in, is_array, array_change, view_change}
 use Rattle.zarr_tree.specs.Changes.{own_chunk, chunk_of, apply}
-use Rattle.zarr_tree.specs.Held.{Held, Entry, changes_of, entry_in, nodes_over}
+use Rattle.zarr_tree.specs.Held.{Held, HeldEntry, changes_of, entry_in, nodes_over}
 use Rattle.zarr_tree.proofs.Maps.{Path, Index}
 use Rattle.zarr_tree.proofs.Apply.{first, second}
 use Rattle.zarr_changes.specs.Sets.{chunks_of, has_chunks}
@@ -65,7 +65,7 @@ module _ (puts : Puts) (i : Index) where
       tested true f r h = refl
       tested false f r h = cc
 
-  changed_view : (p : Path) (n : Node) (row : NodeRow) (m v : Option View) → row.id ≡ n.id → view_change m v ≡ None
+  changed_view : (p : Path) (n : Node) (row : NodeRow) (m v : Option MetaView) → row.id ≡ n.id → view_change m v ≡ None
       → option_and_then (bytes_at puts) (place_in puts (record { id = n.id; path = p; user_data = n.text; kind = kind_of (array_of_view v) (manifests_named row.kind) }) i (array_of_view v))
       ≡ at_array (is_some (array_of_view v)) (option_and_then (bytes_at puts) (place_in puts row i (array_of_view m)))
   changed_view p n row m None same h = refl
@@ -128,7 +128,7 @@ module _ (puts : Puts) (i : Index) where
     own = own_chunk (option_map node_of old) n.id (chunk_under puts i old)
 
     -- the row with a new list has the chunks that are merged there
-    merged_chunk : (array : ArrayView) (entries : List (Entry Place)) (refs : List ManifestRef) → array_in n.text ≡ Some array
+    merged_chunk : (array : ArrayView) (entries : List (HeldEntry Place)) (refs : List ManifestRef) → array_in n.text ≡ Some array
         → (is_some (entry_in entries n.id i) ≡ true → length i ≡ length array.shape)
         → chunk_place (length array.shape) n.id i (listed puts refs) ≡ merged (length array.shape) n.id (listed puts (manifests_for n.id old)) (chunks_of entries n.id) i
         → chunk_under puts i (Some (row_of p n refs)) ≡ at_array (is_array n.text) (entered (entry_in entries n.id i) own)

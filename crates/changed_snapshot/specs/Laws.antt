@@ -1,5 +1,6 @@
 -- What the snapshot of a base under changes stands for.
-use Rattle.std.specs.Prelude.{◌≡◌, ◌⊎◌, ℕ, ◌<◌, ◌≤◌, ◌^◌, true, false, ◌&&◌, List, length, Some, None, is_some, IfSome}
+use Rattle.std.specs.Prelude.{◌≡◌, ◌⊎◌, ℕ, ◌<◌, ◌≤◌, ◌^◌, true, false, ◌&&◌}
+use Rattle.std.specs.Prelude.{List, length, Some, None, is_some, IfSome}
 use Rattle.std.specs.List.{Contains, AllByRecursion}
 use Rattle.std.specs.Str.{IsUtf8}
 use Rattle.std.specs.FinMap.{get, len}
@@ -32,41 +33,62 @@ use Rattle.changed_snapshot.specs.Rows.{new_list, own_manifests, rows_over, snap
 
 -- the nodes of the rows are the base's under what is held
 abbrev pub NodesLaw : Type 0
-NodesLaw = (h : Held Place) (news : List NewList) (rows : List NodeRow) → nodes_in (rows_over h news rows) ≡ nodes_over h (nodes_in rows)
+NodesLaw =
+    (h : Held Place) (news : List NewList) (rows : List NodeRow)
+    → nodes_in (rows_over h news rows) ≡ nodes_over h (nodes_in rows)
 
 -- a node that stays at its path keeps the parts of its metadata that stay
 abbrev pub KeepsFrozen : Held Place → List NodeRow → Type 0
-KeepsFrozen h rows = (p : List ℕ) (m n : Node) → get (nodes_in rows) p ≡ Some m → get (nodes_over h (nodes_in rows)) p ≡ Some n → m.id ≡ n.id → SameFrozen m.text n.text
+KeepsFrozen h rows =
+    (p : List ℕ) (m n : Node) → get (nodes_in rows) p ≡ Some m
+    → get (nodes_over h (nodes_in rows)) p ≡ Some n → m.id ≡ n.id → SameFrozen m.text n.text
 
 -- an entry for an array of the new tree has its rank
 abbrev pub AreRanked : Held Place → List NodeRow → Type 0
-AreRanked h rows = (p : List ℕ) (n : Node) (array : ArrayView) (i : List ℕ) → get (nodes_over h (nodes_in rows)) p ≡ Some n → array_in n.text ≡ Some array
+AreRanked h rows =
+    (p : List ℕ) (n : Node) (array : ArrayView) (i : List ℕ)
+    → get (nodes_over h (nodes_in rows)) p ≡ Some n → array_in n.text ≡ Some array
     → is_some (entry_in h.chunks n.id i) ≡ true → length i ≡ length array.shape
 
--- an array has such a new list: at each index it gives the chunk where the entries have it, else where the base's manifests have it
-pub record HasMerged (puts : Puts) (h : Held Place) (rows : List NodeRow) (news : List NewList) (p : List ℕ) (n : Node) (rank : ℕ) : Type 0 where
+-- an array has such a new list: at each index it gives the chunk where the entries have it, else
+-- where the base's manifests have it
+pub record HasMerged (puts : Puts) (h : Held Place) (rows : List NodeRow) (news : List NewList)
+    (p : List ℕ) (n : Node) (rank : ℕ) : Type 0 where
   pub refs : List ManifestRef
   pub has : new_list news p ≡ Some refs
-  pub gives : (i : List ℕ) → chunk_place rank n.id i (listed puts refs) ≡ merged rank n.id (listed puts (own_manifests rows p n.id)) (chunks_of h.chunks n.id) i
+  pub gives : (i : List ℕ)
+      → chunk_place rank n.id i (listed puts refs)
+      ≡ merged rank n.id (listed puts (own_manifests rows p n.id)) (chunks_of h.chunks n.id) i
 
--- the new lists are what the changes ask for: each array of the new tree with entries has its own, and other nodes have none
-pub record AreMerged (puts : Puts) (h : Held Place) (rows : List NodeRow) (news : List NewList) : Type 0 where
-  pub written : (p : List ℕ) (n : Node) (array : ArrayView) → get (nodes_over h (nodes_in rows)) p ≡ Some n → array_in n.text ≡ Some array → has_chunks h.chunks n.id ≡ true
+-- the new lists are what the changes ask for: each array of the new tree with entries has its
+-- own, and other nodes have none
+pub record AreMerged (puts : Puts) (h : Held Place) (rows : List NodeRow)
+    (news : List NewList) : Type 0 where
+  pub written : (p : List ℕ) (n : Node) (array : ArrayView)
+      → get (nodes_over h (nodes_in rows)) p ≡ Some n → array_in n.text ≡ Some array
+      → has_chunks h.chunks n.id ≡ true
       → HasMerged puts h rows news p n (length array.shape)
-  pub others : (p : List ℕ) (n : Node) → get (nodes_over h (nodes_in rows)) p ≡ Some n → (is_array n.text && has_chunks h.chunks n.id) ≡ false → new_list news p ≡ None
+  pub others : (p : List ℕ) (n : Node) → get (nodes_over h (nodes_in rows)) p ≡ Some n
+      → (is_array n.text && has_chunks h.chunks n.id) ≡ false → new_list news p ≡ None
 
 -- Then the tree of the rows is the base's tree under the changes.
 abbrev pub TreeLaw : Type 0
-TreeLaw = (puts : Puts) (h : Held Place) (news : List NewList) (rows : List NodeRow) → KeepsFrozen h rows → AreRanked h rows → AreMerged puts h rows news
-    → tree_under puts (rows_over h news rows) ≡ apply (changes_of (bytes_at puts) h) (tree_under puts rows)
+TreeLaw =
+    (puts : Puts) (h : Held Place) (news : List NewList) (rows : List NodeRow) → KeepsFrozen h rows
+    → AreRanked h rows → AreMerged puts h rows news
+    → tree_under puts (rows_over h news rows)
+    ≡ apply (changes_of (bytes_at puts) h) (tree_under puts rows)
 
 -- normal changes keep what stays of metadata
 pub record FrozenLaw : Type 0 where
-  pub normal : (puts : Puts) (h : Held Place) (rows : List NodeRow) → IsNormal (changes_of (bytes_at puts) h) (tree_under puts rows) → KeepsFrozen h rows
+  pub normal : (puts : Puts) (h : Held Place) (rows : List NodeRow)
+      → IsNormal (changes_of (bytes_at puts) h) (tree_under puts rows) → KeepsFrozen h rows
 
 -- and their entries have the ranks of their arrays
 abbrev pub RankedLaw : Type 0
-RankedLaw = (puts : Puts) (h : Held Place) (rows : List NodeRow) → IsNormal (changes_of (bytes_at puts) h) (tree_under puts rows) → AreRanked h rows
+RankedLaw =
+    (puts : Puts) (h : Held Place) (rows : List NodeRow)
+    → IsNormal (changes_of (bytes_at puts) h) (tree_under puts rows) → AreRanked h rows
 
 -- ---- what is named
 
@@ -80,7 +102,9 @@ pub record IsNew (news : List NewList) (id : Id12) : Type 0 where
 
 -- The rows name manifests that the base's rows name, and new ones.
 abbrev pub OwnLaw : Type 0
-OwnLaw = (h : Held Place) (news : List NewList) (rows : List NodeRow) (id : Id12) → NamesManifest (rows_over h news rows) id → NamesManifest rows id ⊎ IsNew news id
+OwnLaw =
+    (h : Held Place) (news : List NewList) (rows : List NodeRow) (id : Id12)
+    → NamesManifest (rows_over h news rows) id → NamesManifest rows id ⊎ IsNew news id
 
 -- ---- what can be written
 
@@ -120,5 +144,9 @@ AreSized news = AllByRecursion (λ new. IfSome new.manifest IsSized) news
 
 -- So can the snapshot under them, where it has no more nodes than a tree may have.
 abbrev pub ProperLaw : Type 0
-ProperLaw = (s : SnapshotFile) (h : Held Place) (news : List NewList) (stamp : Stamp) (message : List ℕ) (props : List (List ℕ × List ℕ)) → IsProper s → AddsFine h → SetsFine h → AreSized news → IsStamp stamp → IsUtf8 message → AreProps props → len (nodes_over h (nodes_in s.nodes)) ≤ most_nodes
+ProperLaw =
+    (s : SnapshotFile) (h : Held Place) (news : List NewList)
+    (stamp : Stamp) (message : List ℕ) (props : List (List ℕ × List ℕ))
+    → IsProper s → AddsFine h → SetsFine h → AreSized news → IsStamp stamp → IsUtf8 message
+    → AreProps props → len (nodes_over h (nodes_in s.nodes)) ≤ most_nodes
     → IsProper (snapshot_over h news s.nodes s.manifest_files stamp message props)

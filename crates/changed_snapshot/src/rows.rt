@@ -19,7 +19,7 @@ use std::alloc::{AllocError, Global};
 use std::cmp::Ordering;
 use std::marker::Model;
 use zarr_changes::{ChangeSet, Row};
-use zarr_meta::{ArrayView, View};
+use zarr_meta::{ArrayView, MetaView};
 use zarr_path::Path;
 use zarr_tree::Found;
 
@@ -37,14 +37,14 @@ fn shape_of(alloc: Global, lengths: &[u64], chunks: &[u64]) -> Result<Shape, All
 /// What a row says of a node with this metadata, and with these manifests.
 fn kind_of(
     alloc: Global,
-    view: &View,
+    view: &MetaView,
     manifests: Items<ManifestRef>,
 ) -> Result<NodeKind, AllocError>
     ensures { IfOk result (λ kind. kind ≡ kind_of (array_of_view (Some view.now)) manifests) }
 {
     match view {
-        View::Group => Ok(NodeKind::Group),
-        View::Array(array) => Ok(NodeKind::Array {
+        MetaView::Group => Ok(NodeKind::Group),
+        MetaView::Array(array) => Ok(NodeKind::Array {
             shape: shape_of(alloc, array.shape.as_slice(), array.chunks.as_slice())?,
             names: copy_names(alloc, &array.names)?,
             manifests,

@@ -4,7 +4,7 @@ use Rattle.std.specs.Prelude.{Option, Some, None}
 use Rattle.ice_ids.specs.declared.Id12.{Id12}
 use Rattle.object_store.specs.declared.events.Event.{Event}
 use Rattle.reach.specs.Chains.{Chain, here, down, parent_at}
-use Rattle.check_calls.specs.Whole.{Ends, last, further}
+use Rattle.check_calls.specs.Whole.{ChainEnds, last, further}
 
 pub chain-join : {journal : List Event} {a b x : Id12} → Chain journal a b → Chain journal b x → Chain journal a x
 chain-join here d = d
@@ -21,7 +21,7 @@ no-parent : (o : Option Id12) (a : Id12) → o ≡ None → o ≡ Some a → ⊥
 no-parent o a e f = cc
 
 -- down a chain that ends it ends too
-pub ends-below : (journal : List Event) (id at : Id12) → Ends journal id → Chain journal id at → Ends journal at
+pub ends-below : (journal : List Event) (id at : Id12) → ChainEnds journal id → Chain journal id at → ChainEnds journal at
 ends-below journal id at e here = e
 ends-below journal id at (last none) (down p c) = absurd (no-parent (parent_at journal id) _ none p)
 ends-below journal id at (further {parent = parent} q e) (down {parent = below} p c) =
@@ -39,7 +39,7 @@ turn journal id parent e here = record { parent = id; is = e; chain = here }
 turn journal id parent e (down {parent = below} f c) = record { parent = below; is = f; chain = chain-more c e }
 
 -- none is below itself where the chain ends
-pub no-loop : (journal : List Event) (id : Id12) → Ends journal id → IsBelow journal id id → ⊥
+pub no-loop : (journal : List Event) (id : Id12) → ChainEnds journal id → IsBelow journal id id → ⊥
 no-loop journal id (last none) b = no-parent (parent_at journal id) b.parent none b.is
 no-loop journal id (further {parent = parent} q e) b =
     let same : b.parent ≡ parent = same-parent (parent_at journal id) b.parent parent b.is q in

@@ -25,7 +25,7 @@ use Rattle.live_refs.proofs.Live.{live-law}
 use Rattle.collecting.specs.Walks.{IsObject}
 use Rattle.history_laws.specs.Refs.{IsRef}
 use Rattle.intact.specs.Visits.{Visit, Refs, Ref, Snap, Log, File, Part, op_for, told, leads, or_nowhere}
-use Rattle.intact.specs.Intact.{Made, IsTold, IsMade, IsFine, IsFineBy, Named}
+use Rattle.intact.specs.Intact.{Made, WasAnswered, WasVisited, IsFine, IsFineBy, Named}
 use Rattle.intact.specs.Intact as intact
 use Rattle.repo_check.specs.declared.standing.CheckReport.{CheckReport}
 use Rattle.repo_check.specs.Findings.{Deed, made_of, deeds_of}
@@ -84,7 +84,7 @@ module _ (client : ℕ) (start first last : List Event) (made : List Made) (c : 
     pub op_is : event.op ≡ op_for v
     pub reply_is : event.reply ≡ reply
 
-  pub replied : (v : Visit) (reply : Reply) → IsTold made v reply → Replied v reply
+  pub replied : (v : Visit) (reply : Reply) → WasAnswered made v reply → Replied v reply
   replied v reply t =
       let o = occurs client c.between made c.deeds t.one t.among in
       record {
@@ -102,7 +102,7 @@ module _ (client : ℕ) (start first last : List Event) (made : List Made) (c : 
   pub record OwnVisit (op : Op) (reply : Reply) : Type 0 where
     pub visit : Visit
     pub op_is : op_for visit ≡ op
-    pub told : IsTold made visit reply
+    pub told : WasAnswered made visit reply
 
   pub own-visit : (op : Op) (reply : Reply) → HasOwn client op reply start last → OwnVisit op reply
   own-visit op reply h =
@@ -118,7 +118,7 @@ module _ (client : ℕ) (start first last : List Event) (made : List Made) (c : 
     pub after : List Event
     pub is : c.between ≡ before ++ after
     pub now : ℕ
-    pub told_is : IsTold made v (Is_got (got_of now (found (first ++ before) key)))
+    pub told_is : WasAnswered made v (Is_got (got_of now (found (first ++ before) key)))
     pub next : List Visit
     pub fine : told v (Is_got (got_of now (found (first ++ before) key))) ≡ Ok next
     pub leads_is : leads v (Is_got (got_of now (found (first ++ before) key))) ≡ next
@@ -138,7 +138,7 @@ module _ (client : ℕ) (start first last : List Event) (made : List Made) (c : 
               after = r.event ∷ r.after;
               is = r.is;
               now = r.event.time;
-              told_is = subst (λ (x : Reply). IsTold made v x) answer told_by;
+              told_is = subst (λ (x : Reply). WasAnswered made v x) answer told_by;
               next = fine.next;
               fine = now_fine;
               leads_is = ap or_nowhere now_fine;
@@ -186,7 +186,7 @@ module _ (client : ℕ) (start first last : List Event) (made : List Made) (c : 
   same-entries : (l m : Listed) → Is_listed l ≡ Is_listed m → l ≡ m
   same-entries l m e = cc
 
-  listed-ref : (part : Part_of_store) (reply : Reply) (key : Key) → IsRefPart part → IsTold made (Refs part) reply → Contains (leads (Refs part) reply) (Ref key) → ListedRef key
+  listed-ref : (part : Part_of_store) (reply : Reply) (key : Key) → IsRefPart part → WasAnswered made (Refs part) reply → Contains (leads (Refs part) reply) (Ref key) → ListedRef key
   listed-ref part reply key p t k =
       let l = from-refs part reply (Ref key) k in
       let same : key ≡ l.key = let e = l.is in cc in
@@ -211,7 +211,7 @@ module _ (client : ℕ) (start first last : List Event) (made : List Made) (c : 
   RefFact (File f) = Unit {0}
   RefFact (Part p) = Unit {0}
 
-  ref-step : (v w : Visit) (reply : Reply) → RefFact v → IsTold made v reply → Contains (leads v reply) w → RefFact w
+  ref-step : (v w : Visit) (reply : Reply) → RefFact v → WasAnswered made v reply → Contains (leads v reply) w → RefFact w
   ref-step (Refs part) w reply h t k =
       let l = from-refs part reply w k in
       subst RefFact (sym l.is) (listed-ref part reply l.key h t (subst (λ (x : Visit). Contains (leads (Refs part) reply) x) l.is k))

@@ -14,8 +14,8 @@ use Rattle.ice_ids.proofs.TextLaws.{same_id8-true, same_id8-self}
 use Rattle.zarr_path.specs.Paths.{path_cmp, same_path, root, parent_of, is_path}
 use Rattle.zarr_path.proofs.OrderLaws.{total, same_path-true, same_path-refl}
 use Rattle.zarr_meta.specs.declared.faults.MetaFault.{MetaFault}
-use Rattle.zarr_meta.specs.declared.views.View.{View}
-use Rattle.zarr_meta.specs.declared.views.View.TheVariants as view
+use Rattle.zarr_meta.specs.declared.views.MetaView.{MetaView}
+use Rattle.zarr_meta.specs.declared.views.MetaView.TheVariants as view
 use Rattle.zarr_meta.specs.Meta.{meta_of}
 use Rattle.zarr_tree.specs.Nodes.{Node, is_metadata, is_group, is_group_view}
 use Rattle.zarr_tree.specs.Trees.{Tree, HasGroup, IsWellFormed, node_at}
@@ -128,17 +128,17 @@ faultless at (x ∷ xs) h row c = by (faultless (at + 1) xs) (row_fault x) refl 
     by again (Some fault) e k = absurd cc
     by again None e k = elim (first-or-later x row xs c) [ inl f ↦ ap row_fault (sym f) ∙ e | inr l ↦ again k row l ]
 
-meta-there : (kind : NodeKind) (r : Result View MetaFault) → kind_fault kind r ≡ None → is_some (result_ok r) ≡ true
+meta-there : (kind : NodeKind) (r : Result MetaView MetaFault) → kind_fault kind r ≡ None → is_some (result_ok r) ≡ true
 meta-there kind (Ok v) h = refl
 meta-there kind (Err fault) h = absurd cc
 
-group-is : (kind : NodeKind) (r : Result View MetaFault) → kind_fault kind r ≡ None → not (is_array kind) ≡ true → is_group_view (result_ok r) ≡ true
+group-is : (kind : NodeKind) (r : Result MetaView MetaFault) → kind_fault kind r ≡ None → not (is_array kind) ≡ true → is_group_view (result_ok r) ≡ true
 group-is Group (Ok view.Group) h g = refl
 group-is Group (Ok (view.Array a)) h g = absurd cc
 group-is Group (Err fault) h g = absurd cc
 group-is (Array shape names manifests) r h g = absurd cc
 
-is-group : (kind : NodeKind) (r : Result View MetaFault) → kind_fault kind r ≡ None → is_group_view (result_ok r) ≡ true → not (is_array kind) ≡ true
+is-group : (kind : NodeKind) (r : Result MetaView MetaFault) → kind_fault kind r ≡ None → is_group_view (result_ok r) ≡ true → not (is_array kind) ≡ true
 is-group Group r h g = refl
 is-group (Array shape names manifests) (Ok view.Group) h g = absurd cc
 is-group (Array shape names manifests) (Ok (view.Array a)) h g = absurd cc

@@ -42,12 +42,12 @@ use Rattle.intact.specs.Rows.{file_for, files_of_row, want_of, first_unwell}
 use Rattle.intact.specs.Parts.{entries_of, fault_in, inline_fault, first_short, part_at, parts_in, parts_of}
 use Rattle.intact.specs.Told.{found_snapshot}
 use Rattle.intact.specs.Visits.{Visit, Ref, Snap, Log, File, Part, op_for, or_nowhere, behind_ref, behind_snapshot}
-use Rattle.intact.specs.Intact.{Made, IsTold, IsMade, Named, HasParent, IsAbove, IsIntact}
+use Rattle.intact.specs.Intact.{Made, WasAnswered, WasVisited, Named, HasParent, IsAbove, IsIntact}
 use Rattle.intact.specs.Intact as intact
 use Rattle.repo_check.specs.Exact.{AreDistinct, IsObjectNamed}
 use Rattle.repo_check.proofs.Made.{above-then}
 use Rattle.ice_ids.proofs.Elements.{first-is, first-or-later, none-in}
-use Rattle.check_calls.specs.Whole.{HasBytes, IsWholeChunk, HasEntry, HasLog, IsWholeSnapshot, Ends, last, further, IsWhole}
+use Rattle.check_calls.specs.Whole.{HasBytes, IsWholeChunk, HasEntry, HasLog, IsWholeSnapshot, ChainEnds, last, further, IsWhole}
 use Rattle.check_calls.specs.Told.{IsIn, IsOfNoRow, IsExcepted, AreWholeAsRead}
 use Rattle.check_calls.proofs.Lists.{has-map, has-flat, has-filter, few, among}
 use Rattle.check_calls.proofs.Steady.{last-stands}
@@ -104,7 +104,7 @@ module _ (snaps : SnapshotLaw) (client : ℕ) (start first end : List Event) (ma
     pub read : snapshot_by id stored.bytes ≡ Some snap
     pub no_unwell : first_unwell snap.nodes ≡ None
     pub got : Got
-    pub told_by : IsTold made (Snap id) (Is_got got)
+    pub told_by : WasAnswered made (Snap id) (Is_got got)
     pub told_is : found_snapshot id got ≡ Ok snap
     pub named : (w : Visit) → Contains (behind_snapshot id snap) w → Named made w
 
@@ -125,7 +125,7 @@ module _ (snaps : SnapshotLaw) (client : ℕ) (start first end : List Event) (ma
       }
 
   -- by any reply that was a snapshot
-  snap-told : (id : Id12) → Named made (Snap id) → (bytes : List ℕ) (version now : ℕ) → IsTold made (Snap id) (Is_got (Found bytes (version_at version) now)) → (snap : SnapshotFile) → snapshot_by id bytes ≡ Some snap → (w : Visit) → Contains (behind_snapshot id snap) w → Named made w
+  snap-told : (id : Id12) → Named made (Snap id) → (bytes : List ℕ) (version now : ℕ) → WasAnswered made (Snap id) (Is_got (Found bytes (version_at version) now)) → (snap : SnapshotFile) → snapshot_by id bytes ≡ Some snap → (w : Visit) → Contains (behind_snapshot id snap) w → Named made w
   snap-told id n bytes version now t snap read w k =
       let fine = (whole.each (Snap id) n).each (Is_got (Found bytes (version_at version) now)) t in
       let a = snap-at id now (Some (record { bytes = bytes; version = version; created = 0 })) fine.next fine.is in
@@ -245,13 +245,13 @@ module _ (snaps : SnapshotLaw) (client : ℕ) (start first end : List Event) (ma
   -- ---- the chain ends, since there are so many snapshots at most
   module _ (ids : List Id12) (all : (id : Id12) → Named made (Snap id) → Contains ids id) where
     abbrev Walks : ℕ → Type 0
-    Walks fuel = (seen : List Id12) (id : Id12) → AreDistinct seen → ((x : Id12) → Contains seen x → Named made (Snap x)) → ((x : Id12) → Contains seen x → IsAbove made x id) → Named made (Snap id) → length ids < fuel + length seen → Ends end id
+    Walks fuel = (seen : List Id12) (id : Id12) → AreDistinct seen → ((x : Id12) → Contains seen x → Named made (Snap x)) → ((x : Id12) → Contains seen x → IsAbove made x id) → Named made (Snap id) → length ids < fuel + length seen → ChainEnds end id
 
     walk-ends : (fuel : ℕ) → Walks fuel
     walk-ends zero seen id distinct named above n lt = let most = few seen ids distinct (λ x k. all x (named x k)) in absurd (omega (arith, lt, most))
     walk-ends (suc fuel) seen id distinct named above n lt = by (walk-ends fuel) (parent_at end id) refl
       where
-        by : Walks fuel → (o : Option Id12) → parent_at end id ≡ o → Ends end id
+        by : Walks fuel → (o : Option Id12) → parent_at end id ≡ o → ChainEnds end id
         by again None e = last e
         by again (Some parent) e =
             further e
@@ -271,7 +271,7 @@ module _ (snaps : SnapshotLaw) (client : ℕ) (start first end : List Event) (ma
 
     -- ---- what is reached stands
     module _ (objects : List Id12) (parts : (id : Id12) → IsObjectNamed made id → Contains objects id) (some : (id : Id12) → Contains objects id → IsObjectNamed made id) (back : (id : Id12) → Contains ids id → Named made (Snap id))
-        (own : (v : Visit) → IsMade made v → Named made v) where
+        (own : (v : Visit) → WasVisited made v → Named made v) where
       initial-stands : Stands end (Snapshot initial_id) ⊎ IsExcepted client start end (Snapshot initial_id)
       initial-stands = elim (among ids initial_id) [
         | inl k ↦ (let s = snap-here initial_id (back initial_id k) in inl (s.stored, s.stands))
@@ -288,7 +288,7 @@ module _ (snaps : SnapshotLaw) (client : ℕ) (start first end : List Event) (ma
           let v = own-visit client start first end made c (Get (Snapshot id)) (Is_got (Found read.bytes (version_at read.version) read.got.now)) own_get in
           let n = own v.visit (record { reply = Is_got (Found read.bytes (version_at read.version) read.got.now); told = v.told }) in
           let is = get-of_snap client start first end made c v.visit id n v.op_is in
-          let told_by = subst (λ (x : Visit). IsTold made x (Is_got (Found read.bytes (version_at read.version) read.got.now))) is v.told in
+          let told_by = subst (λ (x : Visit). WasAnswered made x (Is_got (Found read.bytes (version_at read.version) read.got.now))) is v.told in
           let named = snap-told id (subst (Named made) is n) read.bytes read.version read.got.now told_by snap read.read in
           let visit = file_for row e.manifest in
           let file = file-here visit (named (File visit) (has-file id snap visit (has-flat (λ (r : NodeRow). files_of_row r) snap.nodes row visit k (has-map (λ (x : ManifestRef). file_for row x) (manifests_named row.kind) e.manifest e.named)))) in
@@ -342,7 +342,7 @@ module _ (snaps : SnapshotLaw) (client : ℕ) (start first end : List Event) (ma
           let reply = Is_got (Found r.bytes (version_at version.0) r.got.now) in
           let v = own-visit client start first end made c (Get ref) reply r.got.own in
           let is = get-of_ref client start first end made c v.visit ref is_ref v.op_is in
-          let told_by = subst (λ (x : Visit). IsTold made x reply) is v.told in
+          let told_by = subst (λ (x : Visit). WasAnswered made x reply) is v.told in
           let n = own (Ref ref) (record { reply = reply; told = told_by }) in
           let fine = (whole.each (Ref ref) n).each reply told_by in
           let a = ref-at r.got.now (record { bytes = r.bytes; version = version.0; created = 0 }) fine.next fine.is in

@@ -44,7 +44,7 @@ use Rattle.intact.specs.Rows.{file_for, files_of_row, want_of, first_unwell}
 use Rattle.intact.specs.Parts.{entries_of, fault_in, inline_fault, first_short, part_at, parts_of}
 use Rattle.intact.specs.Told.{found_ref, found_snapshot, found_manifest, found_part, some_ref, well, unless_unwell, any_log, long, unless_short, any_part}
 use Rattle.intact.specs.Visits.{Visit, Refs, Ref, Snap, Log, File, Part, op_for, told, leads, leading, nowhere, behind_ref, behind_snapshot, behind_manifest}
-use Rattle.intact.specs.Intact.{Made, IsTold, IsMade, IsFine, IsFineBy, Named, HasParent, IsAbove, IsIntact}
+use Rattle.intact.specs.Intact.{Made, WasAnswered, WasVisited, IsFine, IsFineBy, Named, HasParent, IsAbove, IsIntact}
 use Rattle.intact.specs.Intact as intact
 use Rattle.ice_ids.proofs.Elements.{first-is, later-is}
 use Rattle.check_calls.specs.Whole.{IsWholeChunk, HasEntry, IsWholeSnapshot, IsWhole, NamesWhole, AllWhole}
@@ -105,7 +105,7 @@ module _ (snaps : SnapshotLaw) (client : ℕ) (start first end : List Event) (ma
   got-same : (g h : Got) → Is_got g ≡ Is_got h → g ≡ h
   got-same g h e = cc
 
-  told-now : (v : Visit) (key : Key) (got : Got) → op_for v ≡ Get key → IsTold made v (Is_got got) → ToldNow got key
+  told-now : (v : Visit) (key : Key) (got : Got) → op_for v ≡ Get key → WasAnswered made v (Is_got got) → ToldNow got key
   told-now v key got op t =
       let r = replied client start first end made c v (Is_got got) t in
       elim (got-honest (first ++ r.before) r.event key (Is_got got) r.good (r.op_is ∙ op) r.reply_is) [
@@ -114,9 +114,9 @@ module _ (snaps : SnapshotLaw) (client : ℕ) (start first end : List Event) (ma
       ]
 
   -- ---- all named is whole, so it has no fault
-  module _ (unfailed : (v : Visit) (reply : Reply) → IsTold made v reply → has_failed reply ≡ false) (complete : (v : Visit) → Named made v → IsMade made v) (all : AllWhole end) where
+  module _ (unfailed : (v : Visit) (reply : Reply) → WasAnswered made v reply → has_failed reply ≡ false) (complete : (v : Visit) → Named made v → WasVisited made v) (all : AllWhole end) where
     -- what any operation was told
-    answered : (v : Visit) (key : Key) (reply : Reply) → op_for v ≡ Get key → IsTold made v reply → (now : ℕ) × (reply ≡ Is_got (got_of now (found end key)))
+    answered : (v : Visit) (key : Key) (reply : Reply) → op_for v ≡ Get key → WasAnswered made v reply → (now : ℕ) × (reply ≡ Is_got (got_of now (found end key)))
     answered v key reply op t =
         let r = replied client start first end made c v reply t in
         elim (got-honest (first ++ r.before) r.event key reply r.good (r.op_is ∙ op) r.reply_is) [
@@ -178,7 +178,7 @@ module _ (snaps : SnapshotLaw) (client : ℕ) (start first end : List Event) (ma
     found-names stored now n = ap some_ref (ok-of (read_ref stored.bytes) n.id n.names)
 
     -- ---- snapshots
-    snap-same : (id : Id12) (o : OnChain id) (got : Got) (snap : SnapshotFile) → IsTold made (Snap id) (Is_got got) → found_snapshot id got ≡ Ok snap → snap ≡ (at-chain id o).snap
+    snap-same : (id : Id12) (o : OnChain id) (got : Got) (snap : SnapshotFile) → WasAnswered made (Snap id) (Is_got got) → found_snapshot id got ≡ Ok snap → snap ≡ (at-chain id o).snap
     snap-same id o got snap t found_is =
         let w = at-chain id o in
         let now = told-now (Snap id) (Snapshot id) got refl t in
@@ -202,7 +202,7 @@ module _ (snaps : SnapshotLaw) (client : ℕ) (start first end : List Event) (ma
     chain-on id parent o e = record { root = o.root; whole = o.whole; chain = chain-more o.chain e }
 
     -- ---- manifests
-    put-now : (f : FileVisit) (got : Got) (file : ManifestFile) → IsTold made (File f) (Is_got got) → found_manifest f got ≡ Ok file → manifest_put (puts_of end) f.manifest ≡ Some file
+    put-now : (f : FileVisit) (got : Got) (file : ManifestFile) → WasAnswered made (File f) (Is_got got) → found_manifest f got ≡ Ok file → manifest_put (puts_of end) f.manifest ≡ Some file
     put-now f got file t found_is =
         let now = told-now (File f) (Manifest f.manifest) got refl t in
         let told_is : found_manifest f (got_of now.now (found end (Manifest f.manifest))) ≡ Ok file = ap (found_manifest f) (sym now.is) ∙ found_is in
@@ -211,18 +211,18 @@ module _ (snaps : SnapshotLaw) (client : ℕ) (start first end : List Event) (ma
         ∙ (ap result_ok a.read ∙ ap (λ (m : ManifestFile). Some m) (ok-same a.file file (sym a.told_is ∙ told_is)))
 
     -- ---- where each leads
-    step : (v w : Visit) (reply : Reply) → RefFact client start first end made c v → Known v → IsTold made v reply → Contains (leads v reply) w → Known w
+    step : (v w : Visit) (reply : Reply) → RefFact client start first end made c v → Known v → WasAnswered made v reply → Contains (leads v reply) w → Known w
     step (Refs part) w reply r h t k = let l = from-refs part reply w k in subst Known (sym l.is) tt
     step (Ref key) w reply r h t k =
         let l = from-ref key reply w k in
-        let now = told-now (Ref key) key l.got refl (subst (λ (x : Reply). IsTold made (Ref key) x) l.reply_is t) in
+        let now = told-now (Ref key) key l.got refl (subst (λ (x : Reply). WasAnswered made (Ref key) x) l.reply_is t) in
         let n = ref-now key r in
         let told_is : found_ref l.got ≡ Ok (Some n.names.id) = ap found_ref (now.is ∙ ap (got_of now.now) n.stands) ∙ found-names n.stored now.now n.names in
         let id_is : l.id ≡ n.names.id = some-same l.id n.names.id (ok-same (Some l.id) (Some n.names.id) (sym l.found ∙ told_is)) in
         subst Known (sym l.is) (record { root = n.names.id; whole = n.names.whole; chain = subst (λ (x : Id12). Chain end n.names.id x) (sym id_is) here })
     step (Snap id) w reply r h t k =
         let l = from-snap id reply w k in
-        let snap_is = snap-same id h l.got l.snap (subst (λ (x : Reply). IsTold made (Snap id) x) l.reply_is t) l.found in
+        let snap_is = snap-same id h l.got l.snap (subst (λ (x : Reply). WasAnswered made (Snap id) x) l.reply_is t) l.found in
         by l.snap snap_is (behind-cases id l.snap w l.among)
       where
         by : (snap : SnapshotFile) → snap ≡ (at-chain id h).snap → Behind id snap w → Known w
@@ -235,7 +235,7 @@ module _ (snaps : SnapshotLaw) (client : ℕ) (start first end : List Event) (ma
     step (Log id) w reply r h t k = absurd (from-log id reply w k)
     step (File f) w reply r h t k =
         let l = from-file f reply w k in
-        let put = put-now f l.got l.file (subst (λ (x : Reply). IsTold made (File f) x) l.reply_is t) l.found in
+        let put = put-now f l.got l.file (subst (λ (x : Reply). WasAnswered made (File f) x) l.reply_is t) l.found in
         let among : Contains (parts_of (file_for h.row h.manifest) l.file) l.part = subst (λ (x : FileVisit). Contains (parts_of x l.file) l.part) h.is l.among in
         let e = from-filter (λ (chunk : ChunkRef). part_at (want_of h.row) chunk.place) (entries_of h.row.id l.file) l.part among in
         subst Known (sym l.is)
@@ -259,7 +259,7 @@ module _ (snaps : SnapshotLaw) (client : ℕ) (start first end : List Event) (ma
     fine-as : (v : Visit) (reply answer : Reply) (next : List Visit) → reply ≡ answer → told v answer ≡ Ok next → IsFineBy v reply
     fine-as v reply answer next e is = record { next = next; is = ap (told v) e ∙ is }
 
-    fine-refs : (part : Part_of_store) (reply : Reply) → IsTold made (Refs part) reply → IsFineBy (Refs part) reply
+    fine-refs : (part : Part_of_store) (reply : Reply) → WasAnswered made (Refs part) reply → IsFineBy (Refs part) reply
     fine-refs part reply t =
         let r = replied client start first end made c (Refs part) reply t in
         elim (list-honest (first ++ r.before) r.event part reply r.good r.op_is r.reply_is) [
@@ -267,13 +267,13 @@ module _ (snaps : SnapshotLaw) (client : ℕ) (start first end : List Event) (ma
           | inr a ↦ fine-as (Refs part) reply (Is_listed (record { entries = a.entries; now = a.now })) (map (λ (key : Key). Ref key) (live a.entries)) a.is refl
         ]
 
-    fine-ref : (key : Key) → ListedRef client start first end made c key → (reply : Reply) → IsTold made (Ref key) reply → IsFineBy (Ref key) reply
+    fine-ref : (key : Key) → ListedRef client start first end made c key → (reply : Reply) → WasAnswered made (Ref key) reply → IsFineBy (Ref key) reply
     fine-ref key l reply t =
         let a = answered (Ref key) key reply refl t in
         let n = ref-now key l in
         fine-as (Ref key) reply (Is_got (got_of a.0 (Some n.stored))) (behind_ref (Some n.names.id)) (a.1 ∙ ap (λ (o : Option Stored). Is_got (got_of a.0 o)) n.stands) (ap (leading behind_ref) (found-names n.stored a.0 n.names))
 
-    fine-snap : (id : Id12) → OnChain id → (reply : Reply) → IsTold made (Snap id) reply → IsFineBy (Snap id) reply
+    fine-snap : (id : Id12) → OnChain id → (reply : Reply) → WasAnswered made (Snap id) reply → IsFineBy (Snap id) reply
     fine-snap id o reply t =
         let a = answered (Snap id) (Snapshot id) reply refl t in
         let w = at-chain id o in
@@ -282,7 +282,7 @@ module _ (snaps : SnapshotLaw) (client : ℕ) (start first end : List Event) (ma
         let told_is : found_snapshot id (got_of a.0 (Some w.stored)) ≡ Ok w.snap = ap well read ∙ ap (λ (o : Option ℕ). unless_unwell o w.snap) rows in
         fine-as (Snap id) reply (Is_got (got_of a.0 (Some w.stored))) (behind_snapshot id w.snap) (a.1 ∙ ap (λ (o : Option Stored). Is_got (got_of a.0 o)) w.stands) (ap (leading (behind_snapshot id)) told_is)
 
-    fine-log : (id : Id12) → OnChain id → (id ≡ initial_id → ⊥) → (reply : Reply) → IsTold made (Log id) reply → IsFineBy (Log id) reply
+    fine-log : (id : Id12) → OnChain id → (id ≡ initial_id → ⊥) → (reply : Reply) → WasAnswered made (Log id) reply → IsFineBy (Log id) reply
     fine-log id o other reply t =
         let a = answered (Log id) (Txn id) reply refl t in
         elim (at-chain id o).log [
@@ -290,7 +290,7 @@ module _ (snaps : SnapshotLaw) (client : ℕ) (start first end : List Event) (ma
           | inr h ↦ fine-as (Log id) reply (Is_got (got_of a.0 (Some h.stored))) [] (a.1 ∙ ap (λ (o : Option Stored). Is_got (got_of a.0 o)) h.stands) (ap (λ (r : Result TxnFile Bad). leading nowhere (any_log r)) (ok-of (read_log id h.stored.bytes) h.log h.read))
         ]
 
-    fine-row : (at : Id12) (w : IsWholeSnapshot end at) (row : NodeRow) → Contains w.snap.nodes row → (manifest : ManifestRef) → Contains (manifests_named row.kind) manifest → (reply : Reply) → IsTold made (File (file_for row manifest)) reply
+    fine-row : (at : Id12) (w : IsWholeSnapshot end at) (row : NodeRow) → Contains w.snap.nodes row → (manifest : ManifestRef) → Contains (manifests_named row.kind) manifest → (reply : Reply) → WasAnswered made (File (file_for row manifest)) reply
         → (file : ManifestFile) → manifest_put (puts_of end) manifest.id ≡ Some file → IsFineBy (File (file_for row manifest)) reply
     fine-row at w row among manifest named reply t file e =
         let visit = file_for row manifest in
@@ -308,16 +308,16 @@ module _ (snaps : SnapshotLaw) (client : ℕ) (start first end : List Event) (ma
     put-there None there = absurd cc
     put-there (Some file) there = (file, refl)
 
-    fine-file : (f : FileVisit) → OfRow f → (reply : Reply) → IsTold made (File f) reply → IsFineBy (File f) reply
+    fine-file : (f : FileVisit) → OfRow f → (reply : Reply) → WasAnswered made (File f) reply → IsFineBy (File f) reply
     fine-file f h reply t =
         let w = at-chain h.at h.on in
         let proper = snaps.read h.at w.stored.bytes w.snap w.read in
         let there = w.tree.readable.manifests h.row.path h.row h.manifest (row-found None w.snap.nodes proper.writable.nodes h.row h.among) h.named in
         let put = put-there (manifest_put (puts_of end) h.manifest.id) there in
         subst (λ (x : FileVisit). IsFineBy (File x) reply) (sym h.is)
-        (fine-row h.at w h.row h.among h.manifest h.named reply (subst (λ (x : FileVisit). IsTold made (File x) reply) h.is t) put.0 put.1)
+        (fine-row h.at w h.row h.among h.manifest h.named reply (subst (λ (x : FileVisit). WasAnswered made (File x) reply) h.is t) put.0 put.1)
 
-    fine-part : (p : PartVisit) → OfEntry p → (reply : Reply) → IsTold made (Part p) reply → IsFineBy (Part p) reply
+    fine-part : (p : PartVisit) → OfEntry p → (reply : Reply) → WasAnswered made (Part p) reply → IsFineBy (Part p) reply
     fine-part p h reply t = by h.chunk.place h.is ((at-chain h.at h.on).chunks h.row h.chunk h.among h.entry)
       where
         by : (place : Place) → part_at (want_of h.row) place ≡ Some p → IsWholeChunk end (want_of h.row) place → IsFineBy (Part p) reply
@@ -325,14 +325,14 @@ module _ (snaps : SnapshotLaw) (client : ℕ) (start first end : List Event) (ma
         by (Object id offset size) e whole =
             let visit : PartVisit = record { object = id; offset = offset; size = size; want = want_of h.row } in
             let is : visit ≡ p = some-same visit p e in
-            let t' = subst (λ (x : PartVisit). IsTold made (Part x) reply) (sym is) t in
+            let t' = subst (λ (x : PartVisit). WasAnswered made (Part x) reply) (sym is) t in
             let a = answered (Part visit) (Chunk id) reply refl t' in
             let b = whole.1 in
             let told_is : found_part visit (got_of a.0 (Some b.stored)) ≡ Ok tt = ap any_part (whole-part (want_of h.row) offset size b.stored.bytes whole.0 b.long) in
             subst (λ (x : PartVisit). IsFineBy (Part x) reply) is
             (fine-as (Part visit) reply (Is_got (got_of a.0 (Some b.stored))) [] (a.1 ∙ ap (λ (o : Option Stored). Is_got (got_of a.0 o)) b.stands) (ap (leading nowhere) told_is))
 
-    fine : (v : Visit) → RefFact client start first end made c v → Known v → (reply : Reply) → IsTold made v reply → IsFineBy v reply
+    fine : (v : Visit) → RefFact client start first end made c v → Known v → (reply : Reply) → WasAnswered made v reply → IsFineBy v reply
     fine (Refs part) r h reply t = fine-refs part reply t
     fine (Ref key) r h reply t = fine-ref key r reply t
     fine (Snap id) r h reply t = fine-snap id h reply t
@@ -379,7 +379,7 @@ module _ (snaps : SnapshotLaw) (client : ℕ) (start first end : List Event) (ma
           | inl failed ↦ absurd (failed-unfine (Refs p.0) reply fine_by.next failed fine_by.is)
           | inr a ↦ (
               let has = (live-law (found (first ++ r.before)) p.0 a.entries a.listing ref).1 (record { stored = stored; stands = sym (back ref) ∙ stands; part_is = p.1; not_gone = gone-same (found end) (found (first ++ r.before)) back ref not_gone }) in
-              intact.behind p.2 (subst (λ (x : Reply). IsTold made (Refs p.0) x) a.is t) (has-map (λ (key : Key). Ref key) (live a.entries) ref (at-place (live a.entries) has.place ref has.here))
+              intact.behind p.2 (subst (λ (x : Reply). WasAnswered made (Refs p.0) x) a.is t) (has-map (λ (key : Key). Ref key) (live a.entries) ref (at-place (live a.entries) has.place ref has.here))
               )
         ]
 

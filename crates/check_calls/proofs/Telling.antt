@@ -13,7 +13,7 @@ use Rattle.store_api.specs.Callers.{has_failed}
 use Rattle.store_api.specs.Journal.{Each}
 use Rattle.check_reports.specs.declared.faults.Checked.{Checked}
 use Rattle.intact.specs.Visits.{Visit}
-use Rattle.intact.specs.Intact.{Made, IsTold}
+use Rattle.intact.specs.Intact.{Made, WasAnswered}
 use Rattle.repo_check.specs.declared.standing.CheckReport.{CheckReport}
 use Rattle.repo_check.specs.Findings.{Finding, Deed, made_of, deed_of, deeds_of}
 use Rattle.repo_check.specs.Exact.{EndsSo, CheckTells}
@@ -71,7 +71,7 @@ module _ (client : ℕ) (start first last journal : List Event) (report : CheckR
   deeds-are : deeds_of made ≡ deeds_of made ++ c.reports.rest
   deeds-are = sym (ap (λ (l : List Deed). deeds_of made ++ l) none ∙ append-nil (deeds_of made))
 
-  unfailed : NoneFailed client start journal → (v : Visit) (reply : Reply) → IsTold made v reply → has_failed reply ≡ false
+  unfailed : NoneFailed client start journal → (v : Visit) (reply : Reply) → WasAnswered made v reply → has_failed reply ≡ false
   unfailed fine v reply t =
       ap has_failed (sym t.reply_is)
       ∙ fine (deed_of t.one) (subst (λ (l : List Deed). Contains l (deed_of t.one)) (deeds-are ∙ sym c.reports.are) (has-deed made t.one t.among))

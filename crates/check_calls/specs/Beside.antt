@@ -14,7 +14,7 @@ use Rattle.collecting.specs.Walks.{IsObject}
 use Rattle.history_laws.specs.Refs.{Removes}
 
 -- the event put over a snapshot that stood
-pub record PutsOver (before : List Event) (event : Event) (id : Id12) : Type 0 where
+pub record PutsOverSnapshot (before : List Event) (event : Event) (id : Id12) : Type 0 where
   pub bytes : List ℕ
   pub old : Version
   pub why : Why
@@ -27,14 +27,16 @@ pub record PutsOver (before : List Event) (event : Event) (id : Id12) : Type 0 w
 -- the event removed no object, and put over no snapshot
 pub record TakesNothing (before : List Event) (event : Event) : Type 0 where
   pub removes : (key : Key) → IsObject key → Removes before event key → ⊥
-  pub puts_over : (id : Id12) → PutsOver before event id → ⊥
+  pub puts_over : (id : Id12) → PutsOverSnapshot before event id → ⊥
 
 -- the event is the client's
 abbrev pub IsOf : ℕ → List Event → Event → Type 0
 IsOf client before event = event.client ≡ client
 
--- All events of the client behind `start` stand between `first` and `last`, and there each event is legal and polite, and such.
-pub record IsBetween (P : List Event → Event → Type 0) (client : ℕ) (start first last journal : List Event) : Type 0 where
+-- All events of the client behind `start` stand between `first` and `last`, and there each event
+-- is legal and polite, and such.
+pub record IsBetween (P : List Event → Event → Type 0) (client : ℕ)
+    (start first last journal : List Event) : Type 0 where
   pub early : List Event
   pub first_is : first ≡ start ++ early
   pub between : List Event

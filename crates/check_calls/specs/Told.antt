@@ -8,7 +8,8 @@ use Rattle.manifest_file.specs.declared.manifest.ChunkRef.{ChunkRef}
 use Rattle.snapshot_file.specs.declared.nodes.NodeRow.{NodeRow}
 use Rattle.snapshot_file.specs.declared.snapshot.SnapshotFile.{SnapshotFile}
 use Rattle.object_store.specs.declared.keys.Key.{Key}
-use Rattle.object_store.specs.declared.keys.Key.TheVariants.{Snapshot, Manifest, Txn, Chunk, Branch, Tag, Tombstone, Lease}
+use Rattle.object_store.specs.declared.keys.Key.TheVariants.{Snapshot, Manifest, Txn, Chunk}
+use Rattle.object_store.specs.declared.keys.Key.TheVariants.{Branch, Tag, Tombstone, Lease}
 use Rattle.object_store.specs.declared.events.Version.{Version}
 use Rattle.object_store.specs.declared.events.Op.TheVariants.{Get}
 use Rattle.object_store.specs.declared.events.Reply.{Reply}
@@ -30,22 +31,27 @@ use Rattle.check_calls.specs.Whole.{HasEntry, IsWhole, AllWhole}
 -- ---- what a check needn't have found
 -- the client made no get of the key
 abbrev pub WasNotGot : (client : ℕ) → (key : Key) → (start journal : List Event) → Type 0
-WasNotGot client key start journal = (reply : Reply) → HasOwn client (Get key) reply start journal → ⊥
+WasNotGot client key start journal =
+    (reply : Reply) → HasOwn client (Get key) reply start journal → ⊥
 
 -- a place in this object
 abbrev pub IsIn : (object : Id12) → Place → Type 0
 IsIn object (Inline bytes) = ⊥
 IsIn object (Object id offset size) = id ≡ object
 
--- No row of a snapshot that the client read has a chunk in the object: where manifests name it, they do so under other nodes alone than
--- those whose rows name these manifests.
+-- No row of a snapshot that the client read has a chunk in the object: where manifests name it,
+-- they do so under other nodes alone than those whose rows name these manifests.
 abbrev pub IsOfNoRow : (client : ℕ) → (object : Id12) → (start journal : List Event) → Type 0
 IsOfNoRow client object start journal =
-    (id : Id12) (snap : SnapshotFile) → WasReadAs client id snap start journal → (row : NodeRow) (chunk : ChunkRef) → Contains snap.nodes row → HasEntry (puts_of journal) row chunk → IsIn object chunk.place → ⊥
+    (id : Id12) (snap : SnapshotFile) → WasReadAs client id snap start journal
+    → (row : NodeRow) (chunk : ChunkRef) → Contains snap.nodes row
+    → HasEntry (puts_of journal) row chunk → IsIn object chunk.place → ⊥
 
--- What is excepted: the initial snapshot, where no walk met it, and its log, since it has none; and an object that no row names.
+-- What is excepted: the initial snapshot, where no walk met it, and its log, since it has none;
+-- and an object that no row names.
 abbrev pub IsExcepted : (client : ℕ) → (start journal : List Event) → Key → Type 0
-IsExcepted client start journal (Snapshot id) = (id ≡ initial_id) × WasNotGot client (Snapshot initial_id) start journal
+IsExcepted client start journal (Snapshot id) =
+    (id ≡ initial_id) × WasNotGot client (Snapshot initial_id) start journal
 IsExcepted client start journal (Txn id) = id ≡ initial_id
 IsExcepted client start journal (Chunk id) = IsOfNoRow client id start journal
 IsExcepted client start journal (Manifest id) = ⊥
@@ -55,10 +61,14 @@ IsExcepted client start journal (Tombstone name) = ⊥
 IsExcepted client start journal (Lease id) = ⊥
 
 -- ---- sound means whole
--- Each ref that the client read named a snapshot that is whole, so it has a tree; and all that this reaches stands, but for what is excepted.
+-- Each ref that the client read named a snapshot that is whole, so it has a tree; and all that this
+-- reaches stands, but for what is excepted.
 pub record AreWholeAsRead (client : ℕ) (start journal : List Event) : Type 0 where
-  pub whole : (ref : Key) (version : Version) (id : Id12) → IsRef ref → WasRef client ref version id start journal → IsWhole journal id
-  pub stands : (ref : Key) (version : Version) (id : Id12) → IsRef ref → WasRef client ref version id start journal → (key : Key) → Reaches journal id key → Stands journal key ⊎ IsExcepted client start journal key
+  pub whole : (ref : Key) (version : Version) (id : Id12) → IsRef ref
+      → WasRef client ref version id start journal → IsWhole journal id
+  pub stands : (ref : Key) (version : Version) (id : Id12) → IsRef ref
+      → WasRef client ref version id start journal → (key : Key) → Reaches journal id key
+      → Stands journal key ⊎ IsExcepted client start journal key
 
 -- ---- exact when still
 -- `Checked` comes where all is whole, and never `Unsound`.
@@ -68,8 +78,11 @@ pub record IsExact (result : Result Checked Refusal) (journal : List Event) : Ty
 
 -- no operation of the client failed
 abbrev pub NoneFailed : (client : ℕ) → (start journal : List Event) → Type 0
-NoneFailed client start journal = (deed : Deed) → Contains (deeds_behind client start journal) deed → has_failed deed.reply ≡ false
+NoneFailed client start journal =
+    (deed : Deed) → Contains (deeds_behind client start journal) deed
+    → has_failed deed.reply ≡ false
 
 -- faults are told only where no operation failed
 abbrev pub TellsNoFailure : (client : ℕ) → List Event → CheckReport → List Event → Type 0
-TellsNoFailure client start report journal = (faults : ℕ) → report.result ≡ Err (Unsound faults) → NoneFailed client start journal
+TellsNoFailure client start report journal =
+    (faults : ℕ) → report.result ≡ Err (Unsound faults) → NoneFailed client start journal

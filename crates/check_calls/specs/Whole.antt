@@ -1,5 +1,6 @@
--- When what a store has is whole. No check is known here. (Zarr v3 core specification, "Hierarchy", "Chunks"; Icechunk specification version 1,
--- "Snapshots", "Manifests", "Chunks". That a part of an object is as long as its chunk is own.)
+-- When what a store has is whole. No check is known here. (Zarr v3 core specification, "Hierarchy",
+-- "Chunks"; Icechunk specification version 1, "Snapshots", "Manifests", "Chunks". That a part of an
+-- object is as long as its chunk is own.)
 use Rattle.std.specs.Prelude.{◌≡◌, ◌⊎◌, ℕ, ◌+◌, ◌≤◌, List, length, Contains, Some, None}
 use Rattle.ice_ids.specs.declared.Id12.{Id12}
 use Rattle.ice_ids.specs.Text.{initial_id}
@@ -33,10 +34,12 @@ pub record HasBytes (journal : List Event) (object : Id12) (count : ℕ) : Type 
   pub stands : found journal (Chunk object) ≡ Some stored
   pub long : count ≤ length stored.bytes
 
--- The bytes at a place are as many as a chunk has; where they are a part of an object, that stands, and the part lies in it.
+-- The bytes at a place are as many as a chunk has; where they are a part of an object, that
+-- stands, and the part lies in it.
 abbrev pub IsWholeChunk : List Event → (want : ℕ) → Place → Type 0
 IsWholeChunk journal want (Inline bytes) = length bytes ≡ want
-IsWholeChunk journal want (Object id offset size) = (size ≡ want) × HasBytes journal id (offset + size)
+IsWholeChunk journal want (Object id offset size) =
+    (size ≡ want) × HasBytes journal id (offset + size)
 
 -- a manifest that the row names has this entry under the row's node
 pub record HasEntry (puts : Puts) (row : NodeRow) (chunk : ChunkRef) : Type 0 where
@@ -54,8 +57,9 @@ pub record HasLog (journal : List Event) (id : Id12) : Type 0 where
   pub log : TxnFile
   pub read : log_by id stored.bytes ≡ Some log
 
--- The snapshot stands and has a tree; its log (the initial one has none) and the manifests that its rows name stand; and each chunk that these
--- have under a row's node is whole, also one that is in no tree, as it lies outside the manifest's extents or an earlier manifest has another.
+-- The snapshot stands and has a tree; its log (the initial one has none) and the manifests that its
+-- rows name stand; and each chunk that these have under a row's node is whole, also one that is in
+-- no tree, as it lies outside the manifest's extents or an earlier manifest has another.
 pub record IsWholeSnapshot (journal : List Event) (id : Id12) : Type 0 where
   pub stored : Stored
   pub stands : found journal (Snapshot id) ≡ Some stored
@@ -63,18 +67,21 @@ pub record IsWholeSnapshot (journal : List Event) (id : Id12) : Type 0 where
   pub read : snapshot_by id stored.bytes ≡ Some snap
   pub tree : HasTree (puts_of journal) snap.nodes
   pub log : (id ≡ initial_id) ⊎ HasLog journal id
-  pub manifests : (manifest : Id12) → NamesManifest snap.nodes manifest → Stands journal (Manifest manifest)
-  pub chunks : (row : NodeRow) (chunk : ChunkRef) → Contains snap.nodes row → HasEntry (puts_of journal) row chunk → IsWholeChunk journal (want_of row) chunk.place
+  pub manifests : (manifest : Id12) → NamesManifest snap.nodes manifest
+      → Stands journal (Manifest manifest)
+  pub chunks : (row : NodeRow) (chunk : ChunkRef) → Contains snap.nodes row
+      → HasEntry (puts_of journal) row chunk → IsWholeChunk journal (want_of row) chunk.place
 
 -- ---- chains
 -- the chain of parents as they stand ends
-pub data Ends (journal : List Event) : Id12 → Type 0 where
-  last : {id : Id12} → parent_at journal id ≡ None → Ends journal id
-  further : {id parent : Id12} → parent_at journal id ≡ Some parent → Ends journal parent → Ends journal id
+pub data ChainEnds (journal : List Event) : Id12 → Type 0 where
+  last : {id : Id12} → parent_at journal id ≡ None → ChainEnds journal id
+  further : {id parent : Id12} → parent_at journal id ≡ Some parent → ChainEnds journal parent
+      → ChainEnds journal id
 
 -- the chain ends, and each snapshot of it is whole
 pub record IsWhole (journal : List Event) (id : Id12) : Type 0 where
-  pub ends : Ends journal id
+  pub ends : ChainEnds journal id
   pub each : (at : Id12) → Chain journal id at → IsWholeSnapshot journal at
 
 -- ---- refs
@@ -86,4 +93,6 @@ pub record NamesWhole (journal : List Event) (bytes : List ℕ) : Type 0 where
 
 -- each branch that stands, and each tag without a tombstone
 abbrev pub AllWhole : List Event → Type 0
-AllWhole journal = (ref : Key) (stored : Stored) → IsRef ref → IsNotGone (found journal) ref → found journal ref ≡ Some stored → NamesWhole journal stored.bytes
+AllWhole journal =
+    (ref : Key) (stored : Stored) → IsRef ref → IsNotGone (found journal) ref
+    → found journal ref ≡ Some stored → NamesWhole journal stored.bytes

@@ -9,7 +9,7 @@ use Rattle.ice_ids.proofs.TextLaws.{same_id8-true}
 use Rattle.zarr_path.specs.Indices.{index_cmp}
 use Rattle.zarr_path.proofs.OrderLaws.{same_path-true}
 use Rattle.zarr_tree.specs.Nodes.{same_numbers}
-use Rattle.zarr_tree.specs.Held.{Entry, entry_in}
+use Rattle.zarr_tree.specs.Held.{HeldEntry, entry_in}
 use Rattle.zarr_changes.specs.Edits.{with_entry}
 
 -- ---- what a search finds among those that are kept
@@ -58,34 +58,34 @@ both-true false b e = cc
 -- ---- entries
 module _ {P : Type 0} (node : Id8) (i : List ℕ) where
   -- whether an entry is for this chunk
-  abbrev is_for : Entry P → Bool
+  abbrev is_for : HeldEntry P → Bool
   is_for row = same_id8 row.0 node && same_numbers row.1 i
 
-  for-this : (row : Entry P) → is_for row ≡ true → (row.0 ≡ node) × (row.1 ≡ i)
+  for-this : (row : HeldEntry P) → is_for row ≡ true → (row.0 ≡ node) × (row.1 ≡ i)
   for-this row e = let p = both-true (same_id8 row.0 node) (same_numbers row.1 i) e in (same_id8-true row.0 node p.0, same_path-true row.1 i p.1)
 
   -- a test by the chunk alone keeps its entries alike
-  alike : (keep : Id8 → List ℕ → Bool) (a b : Entry P) → is_for a ≡ true → is_for b ≡ true → keep a.0 a.1 ≡ keep b.0 b.1
+  alike : (keep : Id8 → List ℕ → Bool) (a b : HeldEntry P) → is_for a ≡ true → is_for b ≡ true → keep a.0 a.1 ≡ keep b.0 b.1
   alike keep a b s t =
       let x = for-this a s in
       let y = for-this b t in
       λ k. keep ((x.0 ∙ sym y.0) k) ((x.1 ∙ sym y.1) k)
 
-  entry-is : (rows : List (Entry P)) (o : Option (Entry P)) (e : Option P) → find is_for rows ≡ o → option_map (λ (row : Entry P). row.2) o ≡ Some e → (row : Entry P) × (find is_for rows ≡ Some row) × (row.2 ≡ e)
+  entry-is : (rows : List (HeldEntry P)) (o : Option (HeldEntry P)) (e : Option P) → find is_for rows ≡ o → option_map (λ (row : HeldEntry P). row.2) o ≡ Some e → (row : HeldEntry P) × (find is_for rows ≡ Some row) × (row.2 ≡ e)
   entry-is rows None e f d = cc
   entry-is rows (Some row) e f d = (row, f, cc)
 
   -- an entry is the one that was entered, or stood there before
-  pub entered : (rows : List (Entry P)) (id : Id8) (j : List ℕ) (new e : Option P) → entry_in (with_entry rows id j new) node i ≡ Some e → ((j ≡ i) × (new ≡ e)) ⊎ (entry_in rows node i ≡ Some e)
+  pub entered : (rows : List (HeldEntry P)) (id : Id8) (j : List ℕ) (new e : Option P) → entry_in (with_entry rows id j new) node i ≡ Some e → ((j ≡ i) × (new ≡ e)) ⊎ (entry_in rows node i ≡ Some e)
   entered rows id j new e d =
       let x = entry-is (with_entry rows id j new) (find is_for (with_entry rows id j new)) e refl d in
       let before : Id8 → List ℕ → Bool = λ m k. is_lt (ordering_then (id8_cmp m id) (index_cmp k j)) in
       let behind : Id8 → List ℕ → Bool = λ m k. is_lt (ordering_then (id8_cmp id m) (index_cmp j k)) in
-      let old : find is_for rows ≡ Some x.0 → entry_in rows node i ≡ Some e = λ f. ap (option_map (λ (row : Entry P). row.2)) f ∙ ap (λ o. Some o) x.2 in
-      elim (find-middle is_for (filter (λ (row : Entry P). before row.0 row.1) rows) (id, j, new) (filter (λ (row : Entry P). behind row.0 row.1) rows) x.0 x.1) [
+      let old : find is_for rows ≡ Some x.0 → entry_in rows node i ≡ Some e = λ f. ap (option_map (λ (row : HeldEntry P). row.2)) f ∙ ap (λ o. Some o) x.2 in
+      elim (find-middle is_for (filter (λ (row : HeldEntry P). before row.0 row.1) rows) (id, j, new) (filter (λ (row : HeldEntry P). behind row.0 row.1) rows) x.0 x.1) [
         | inl f ↦ inr (old (find-kept is_for (λ row. before row.0 row.1) (alike before) rows x.0 f))
         | inr o ↦ elim o [
-          | inl f ↦ inl ((for-this (id, j, new) f.0).1, ap (λ (row : Entry P). row.2) f.1 ∙ x.2)
+          | inl f ↦ inl ((for-this (id, j, new) f.0).1, ap (λ (row : HeldEntry P). row.2) f.1 ∙ x.2)
           | inr f ↦ inr (old (find-kept is_for (λ row. behind row.0 row.1) (alike behind) rows x.0 f))
         ]
       ]

@@ -29,7 +29,7 @@ use Rattle.repo_read.specs.Answers.{at_key, manifest_told, object_told}
 use Rattle.session.specs.declared.chunks.Value.{Value}
 use Rattle.session.specs.declared.chunks.Value.TheVariants.{Bytes}
 use Rattle.session.specs.Sessions.{SessionState, nodes_seen}
-use Rattle.session.specs.Chunks.{found, read_entry, read_place, read_listed, read_own, read_at, read_found, get_program}
+use Rattle.session.specs.Chunks.{found_bytes, read_entry, read_place, read_listed, read_own, read_at, read_found, get_program}
 use Rattle.store_api.specs.Telling.{ChangedNothing}
 use Rattle.store_api.proofs.Happening.{ChangedNothing-makes, get-leaves}
 
@@ -69,7 +69,7 @@ held-gets : (r : Result (List ℕ) Refusal) → OnlyGets (held_of r)
 held-gets (Ok bytes) = tt
 held-gets (Err why) = tt
 
-found-gets : (r : Result (List ℕ) Refusal) → OnlyGets (found r)
+found-gets : (r : Result (List ℕ) Refusal) → OnlyGets (found_bytes r)
 found-gets (Ok bytes) = tt
 found-gets (Err why) = tt
 

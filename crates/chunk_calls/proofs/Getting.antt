@@ -40,7 +40,7 @@ use Rattle.session.specs.declared.chunks.Value.{Value}
 use Rattle.session.specs.declared.chunks.Value.TheVariants.{Bytes, Fill}
 use Rattle.session.specs.Sessions.{SessionState, nodes_seen, overlay}
 use Rattle.session.specs.Editing.{refusal_of_edit}
-use Rattle.session.specs.Chunks.{found as found_bytes, read_entry, read_listed, read_at, read_found, get_program}
+use Rattle.session.specs.Chunks.{found_bytes, read_entry, read_listed, read_at, read_found, get_program}
 use Rattle.commit_path.specs.Owed.{IsCareful}
 use Rattle.store_api.specs.Telling.{ChangedNothing, WasGot}
 use Rattle.commit_path.specs.Opened.{IsOpened}

@@ -26,7 +26,7 @@ use Rattle.session.specs.Sessions.{SessionState, overlay}
 use Rattle.session.specs.Chunks.{most_inline, with_chunk}
 use Rattle.store_api.proofs.Happening.{ChangedNothing-others, HasOwn-append, WasGot-append, WasAbsent-append}
 use Rattle.commit_path.proofs.Lasting.{failed-others}
-use Rattle.chunk_calls.specs.Told.{WasPutOut, WasSet, WasObjectTaken, IsOfSet, SetRefused, SetTells, value_of, IsChunk, WasToldPlace, IsPartOf, IsOfGet, WasNotThere, IsUnfit, WasUnfit, GetRefused, GetTells}
+use Rattle.chunk_calls.specs.Told.{WasPutOut, WasSet, WasObjectTaken, IsOfSet, SetCause, SetTells, value_of, IsChunk, WasToldPlace, IsPartOf, IsOfGet, WasNotThere, IsUnfit, WasUnfit, GetCause, GetTells}
 use Rattle.chunk_calls.specs.Laws.{TellsLaw}
 use Rattle.chunk_calls.proofs.Growing.{Surely-append}
 
@@ -60,7 +60,7 @@ module _ (client : ℕ) (s : SessionState) (path index bytes : List ℕ) (start 
     there = x.there;
   }
 
-  refused-append : (why : Refusal) → SetRefused client s path index bytes start why journal → SetRefused client s path index bytes start why (journal ++ more)
+  refused-append : (why : Refusal) → SetCause client s path index bytes start why journal → SetCause client s path index bytes start why (journal ++ more)
   refused-append R.ReadOnly x = x
   refused-append R.IdsSpent x = x
   refused-append (R.IdTaken key) x = taken-append key x
@@ -97,7 +97,7 @@ module _ (client : ℕ) (s : SessionState) (path index : List ℕ) (start journa
   unfit-append : (key : Key) (bad : Bad) → WasUnfit client s path index key bad start journal → WasUnfit client s path index key bad start (journal ++ more)
   unfit-append key bad x = record { bytes = x.bytes; version = x.version; got = WasGot-append client key x.bytes x.version start journal more x.got; unfit = fit-append key x.bytes bad x.unfit }
 
-  unread-append : (why : Refusal) → GetRefused client s path index start why journal → GetRefused client s path index start why (journal ++ more)
+  unread-append : (why : Refusal) → GetCause client s path index start why journal → GetCause client s path index start why (journal ++ more)
   unread-append (R.Missing key) x = missing-append key x
   unread-append (R.BadFile key bad) x = unfit-append key bad x
   unread-append R.NoMemory x = x

@@ -9,8 +9,8 @@ use Rattle.ice_ids.specs.Text.{same_id8}
 use Rattle.ice_ids.proofs.TextLaws.{same_id8-true}
 use Rattle.zarr_path.specs.Paths.{same_path}
 use Rattle.zarr_meta.specs.declared.views.ArrayView.{ArrayView}
-use Rattle.zarr_meta.specs.declared.views.View.{View}
-use Rattle.zarr_meta.specs.declared.views.View.TheVariants as view
+use Rattle.zarr_meta.specs.declared.views.MetaView.{MetaView}
+use Rattle.zarr_meta.specs.declared.views.MetaView.TheVariants as view
 use Rattle.zarr_meta.specs.Meta.{view_in}
 use Rattle.zarr_tree.specs.declared.edit.EditFault.{EditFault}
 use Rattle.zarr_tree.specs.declared.edit.EditFault.TheVariants as E
@@ -87,12 +87,12 @@ same-rank a b h = eqb-true _ _ (tested (length a.shape == length b.shape) _ _ h)
     tested false f r h = cc
 
 -- an earlier text of an array is of an array of its rank
-record IsEarlier (m : Option View) (array : ArrayView) : Type 0 where
+record IsEarlier (m : Option MetaView) (array : ArrayView) : Type 0 where
   pub before : ArrayView
   pub is : array_of_view m ≡ Some before
   pub rank : length before.shape ≡ length array.shape
 
-earlier : (m v : Option View) (array : ArrayView) → view_change m v ≡ None → array_of_view v ≡ Some array → IsEarlier m array
+earlier : (m v : Option MetaView) (array : ArrayView) → view_change m v ≡ None → array_of_view v ≡ Some array → IsEarlier m array
 earlier m None array h e = cc
 earlier m (Some view.Group) array h e = cc
 earlier None (Some (view.Array b)) array h e = cc

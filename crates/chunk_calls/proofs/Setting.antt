@@ -17,7 +17,7 @@ use Rattle.zarr_tree.specs.declared.edit.EditFault.{EditFault}
 use Rattle.zarr_tree.specs.declared.edit.EditFault.TheVariants as E
 use Rattle.zarr_tree.specs.Nodes.{Node, array_in, in_grid, chunk_length, are_low}
 use Rattle.zarr_tree.specs.Edits.{at_node, at_array}
-use Rattle.zarr_tree.specs.Held.{Entry}
+use Rattle.zarr_tree.specs.Held.{HeldEntry}
 use Rattle.zarr_tree.proofs.ViewLaws.{array_has_grid, in_grid_is}
 use Rattle.zarr_changes.specs.Edits.{with_entry}
 use Rattle.zarr_changes.specs.Sets.{length_of, set_refusal}
@@ -62,10 +62,10 @@ use Rattle.chunk_calls.specs.Laws.{SetLaw}
 use Rattle.chunk_calls.proofs.Entries.{both-true, entered}
 
 -- ---- a session with other entries, and another source of ids
-abbrev with_entries : SessionState → AnyIds → List (Entry Place) → SessionState
+abbrev with_entries : SessionState → AnyIds → List (HeldEntry Place) → SessionState
 with_entries s ids entries = record s { held = record (s.held) { chunks = entries }; ids = ids }
 
-entries-spelled : (s : SessionState) (ids : AnyIds) (entries : List (Entry Place)) → IsSpelled s → AreSized entries → IsSpelled (with_entries s ids entries)
+entries-spelled : (s : SessionState) (ids : AnyIds) (entries : List (HeldEntry Place)) → IsSpelled s → AreSized entries → IsSpelled (with_entries s ids entries)
 entries-spelled s ids entries w sized = record {
   base = w.base;
   of_snapshot = record { file = w.of_snapshot.file; proper = w.of_snapshot.proper; rows = w.of_snapshot.rows; files = w.of_snapshot.files };
@@ -78,7 +78,7 @@ entries-spelled s ids entries w sized = record {
   few = w.few;
 }
 
-pub entries-opened : (s : SessionState) (ids : AnyIds) (entries : List (Entry Place)) (journal : List Event) → IsOpened s journal → ObjectsPut journal entries → (IsOnce journal → HasChunks (puts_of journal) entries) → IsOpened (with_entries s ids entries) journal
+pub entries-opened : (s : SessionState) (ids : AnyIds) (entries : List (HeldEntry Place)) (journal : List Event) → IsOpened s journal → ObjectsPut journal entries → (IsOnce journal → HasChunks (puts_of journal) entries) → IsOpened (with_entries s ids entries) journal
 entries-opened s ids entries journal o objects chunks = record {
   named = o.named;
   put = o.put;
@@ -132,7 +132,7 @@ abbrev pub HasBytes : List Event → Place → Type 0
 HasBytes journal place = (bytes : List ℕ) × (bytes_at (puts_of journal) place ≡ Some bytes) × (length bytes ≡ length_of place)
 
 module _ (s : SessionState) (path index : List ℕ) (place : Place) (len : ℕ) (t : IsTaken (nodes_seen s) path index len) where
-  abbrev new_entries : List (Entry Place)
+  abbrev new_entries : List (HeldEntry Place)
   new_entries = with_entry s.held.chunks t.node.id index (Some place)
 
   some-same : {A : Type 0} (x y : A) → Some x ≡ Some y → x ≡ y

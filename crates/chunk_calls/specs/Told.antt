@@ -1,6 +1,8 @@
--- What the answers of a session's calls on chunks say of the journal, in words that name no machine and no program.
--- (Own; Zarr v3 core specification, "Chunks": a chunk that isn't held reads as the fill value.)
-use Rattle.std.specs.Prelude.{◌≡◌, ◌⊎◌, ℕ, ◌≤◌, ◌<◌, false, true, List, length, Option, Some, None, Result, Ok, Err}
+-- What the answers of a session's calls on chunks say of the journal, in words that name no
+-- machine and no program. (Own; Zarr v3 core specification, "Chunks": a chunk that isn't
+-- held reads as the fill value.)
+use Rattle.std.specs.Prelude.{◌≡◌, ◌⊎◌, ℕ, ◌≤◌, ◌<◌, false, true, List}
+use Rattle.std.specs.Prelude.{length, Option, Some, None, Result, Ok, Err}
 use Rattle.ice_ids.specs.declared.Id12.{Id12}
 use Rattle.ice_ids.specs.Drawing.{drawn12}
 use Rattle.zarr_tree.specs.declared.edit.EditFault.{EditFault}
@@ -25,7 +27,9 @@ use Rattle.object_store.specs.declared.events.New.TheVariants.{Done as New_done,
 use Rattle.object_store.specs.declared.events.Reply.TheVariants.{New as Is_new}
 use Rattle.object_store.specs.declared.events.Event.{Event}
 use Rattle.store_api.specs.declared.machines.Refusal.{Refusal}
-use Rattle.store_api.specs.declared.machines.Refusal.TheVariants.{ReadOnly, IdsSpent, IdTaken, Missing, BadFile, StoreFault, NoMemory}
+use Rattle.store_api.specs.declared.machines.Refusal.TheVariants.{ReadOnly, IdsSpent}
+use Rattle.store_api.specs.declared.machines.Refusal.TheVariants.{IdTaken, Missing, BadFile}
+use Rattle.store_api.specs.declared.machines.Refusal.TheVariants.{StoreFault, NoMemory}
 use Rattle.store_api.specs.Journal.{puts_of, IsOnce}
 use Rattle.session.specs.declared.chunks.Value.{Value}
 use Rattle.session.specs.declared.chunks.Value.TheVariants.{Bytes, Fill}
@@ -36,28 +40,35 @@ use Rattle.store_api.specs.Telling.{ChangedNothing, HasOwn, StandsAt, WasAbsent,
 
 -- ---- a chunk that was set
 -- the client's own put of a chunk's object under this id was done
-pub record WasObjectPut (client : ℕ) (id : Id12) (bytes : List ℕ) (start journal : List Event) : Type 0 where
+pub record WasObjectPut (client : ℕ) (id : Id12) (bytes : List ℕ)
+    (start journal : List Event) : Type 0 where
   pub version : Version
   pub now : ℕ
-  pub own : HasOwn client (PutNew (Chunk id) bytes Set) (Is_new (New_done version now)) start journal
+  pub own : HasOwn client (PutNew (Chunk id) bytes Set)
+      (Is_new (New_done version now)) start journal
 
--- a long chunk stands in an object that the client put itself, under the next id that its session drew
-pub record WasPutOut (client : ℕ) (s : SessionState) (path index bytes : List ℕ) (t : SessionState) (start journal : List Event) : Type 0 where
+-- a long chunk stands in an object that the client put itself, under
+-- the next id that its session drew
+pub record WasPutOut (client : ℕ) (s : SessionState) (path index bytes : List ℕ) (t : SessionState)
+    (start journal : List Event) : Type 0 where
   pub long : most_inline < length bytes
   pub id : Id12
   pub drawn : drawn12 s.ids ≡ Some id
   pub put : WasObjectPut client id bytes start journal
   pub is : t ≡ with_chunk (after_draw s) path index (Object id 0 (length bytes))
 
--- The session may be written, its tree takes the chunk, and this is the session in which the chunk has these bytes: a short one stands in the
--- session itself.
-pub record WasSet (client : ℕ) (s : SessionState) (path index bytes : List ℕ) (t : SessionState) (start journal : List Event) : Type 0 where
+-- The session may be written, its tree takes the chunk, and this is the session in which the chunk
+-- has these bytes: a short one stands in the session itself.
+pub record WasSet (client : ℕ) (s : SessionState) (path index bytes : List ℕ) (t : SessionState)
+    (start journal : List Event) : Type 0 where
   pub writes : writes s ≡ true
   pub taken : set_refusal (nodes_seen s) path index (length bytes) ≡ None
-  pub is : ((length bytes ≤ most_inline) × (t ≡ with_chunk s path index (Inline bytes))) ⊎ WasPutOut client s path index bytes t start journal
+  pub is : ((length bytes ≤ most_inline) × (t ≡ with_chunk s path index (Inline bytes)))
+      ⊎ WasPutOut client s path index bytes t start journal
 
 -- the key of the object was taken: the client's own put found an object there
-pub record WasObjectTaken (client : ℕ) (s : SessionState) (key : Key) (bytes : List ℕ) (start journal : List Event) : Type 0 where
+pub record WasObjectTaken (client : ℕ) (s : SessionState) (key : Key) (bytes : List ℕ)
+    (start journal : List Event) : Type 0 where
   pub id : Id12
   pub drawn : drawn12 s.ids ≡ Some id
   pub key_is : key ≡ Chunk id
@@ -81,18 +92,26 @@ pub record NeedsObject (s : SessionState) (path index bytes : List ℕ) : Type 0
 abbrev pub FaultIs : Option EditFault → Refusal → Type 0
 FaultIs refusal why = (fault : EditFault) × (refusal ≡ Some fault) × (why ≡ refusal_of_edit fault)
 
-abbrev pub SetRefused : ℕ → SessionState → (path index bytes : List ℕ) → List Event → Refusal → List Event → Type 0
-SetRefused client s path index bytes start ReadOnly journal = writes s ≡ false
-SetRefused client s path index bytes start IdsSpent journal = NeedsObject s path index bytes
-SetRefused client s path index bytes start (IdTaken key) journal = WasObjectTaken client s key bytes start journal
-SetRefused client s path index bytes start NoMemory journal = Unit {0}
-SetRefused client s path index bytes start why journal = FaultIs (set_refusal (nodes_seen s) path index (length bytes)) why
+abbrev pub SetCause : ℕ → SessionState → (path index bytes : List ℕ) → List Event
+    → Refusal → List Event → Type 0
+SetCause client s path index bytes start ReadOnly journal = writes s ≡ false
+SetCause client s path index bytes start IdsSpent journal = NeedsObject s path index bytes
+SetCause client s path index bytes start (IdTaken key) journal =
+    WasObjectTaken client s key bytes start journal
+SetCause client s path index bytes start NoMemory journal = Unit {0}
+SetCause client s path index bytes start why journal =
+    FaultIs (set_refusal (nodes_seen s) path index (length bytes)) why
 
--- What the answer of a set of a chunk says of the journal, where the client had changed no branch between `start` and the call.
-abbrev pub SetTells : ℕ → SessionState → (path index bytes : List ℕ) → List Event → Result SessionState Refusal → List Event → Type 0
-SetTells client s path index bytes start (Ok t) journal = WasSet client s path index bytes t start journal × ChangedNothing client start journal
-SetTells client s path index bytes start (Err StoreFault) journal = WasFailed client (IsOfSet s bytes) start journal
-SetTells client s path index bytes start (Err why) journal = SetRefused client s path index bytes start why journal × ChangedNothing client start journal
+-- What the answer of a set of a chunk says of the journal, where the client had changed no
+-- branch between `start` and the call.
+abbrev pub SetTells : ℕ → SessionState → (path index bytes : List ℕ) → List Event
+    → Result SessionState Refusal → List Event → Type 0
+SetTells client s path index bytes start (Ok t) journal =
+    WasSet client s path index bytes t start journal × ChangedNothing client start journal
+SetTells client s path index bytes start (Err StoreFault) journal =
+    WasFailed client (IsOfSet s bytes) start journal
+SetTells client s path index bytes start (Err why) journal =
+    SetCause client s path index bytes start why journal × ChangedNothing client start journal
 
 -- ---- a chunk that was read
 -- the chunk has these bytes, or isn't held
@@ -100,13 +119,18 @@ abbrev pub value_of : Value → Option (List ℕ)
 value_of (Bytes bytes) = Some bytes
 value_of Fill = None
 
--- Whatever more is put, and whatever others do: the read answered the chunk of the session's base under its own changes. (Where nodes that
--- stay keep the parts of their metadata that stay, as those do of a session in which no node id was drawn twice.)
+-- Whatever more is put, and whatever others do: the read answered the chunk of the session's base
+-- under its own changes. (Where nodes that stay keep the parts of their metadata that stay, as
+-- those do of a session in which no node id was drawn twice.)
 abbrev pub IsChunk : SessionState → (path index : List ℕ) → Value → List Event → Type 0
-IsChunk s path index value journal = IsOnce journal → (puts : Puts) → Extends (puts_of journal) puts → KeepsFrozen s.held s.rows → (overlay puts s).chunk path index ≡ value_of value
+IsChunk s path index value journal =
+    IsOnce journal → (puts : Puts) → Extends (puts_of journal) puts → KeepsFrozen s.held s.rows
+    → (overlay puts s).chunk path index ≡ value_of value
 
--- the client's own get of a manifest that the base names was answered with one that has the chunk at this place
-pub record WasToldPlace (client : ℕ) (s : SessionState) (index : List ℕ) (at : ChunkAt) (place : Place) (start journal : List Event) : Type 0 where
+-- the client's own get of a manifest that the base names was answered with one
+-- that has the chunk at this place
+pub record WasToldPlace (client : ℕ) (s : SessionState) (index : List ℕ) (at : ChunkAt)
+    (place : Place) (start journal : List Event) : Type 0 where
   pub manifest : Id12
   pub named : NamesManifest s.rows manifest
   pub bytes : List ℕ
@@ -116,30 +140,39 @@ pub record WasToldPlace (client : ℕ) (s : SessionState) (index : List ℕ) (at
   pub read : manifest_by manifest bytes ≡ Some file
   pub has : entry_of at.node index file ≡ Some place
 
--- The session's own entry tells that the chunk is in this part of an object, or such a manifest does.
-pub record IsPartOf (client : ℕ) (s : SessionState) (path index : List ℕ) (at : ChunkAt) (id : Id12) (offset size : ℕ) (start journal : List Event) : Type 0 where
+-- The session's own entry tells that the chunk is in this part of an
+-- object, or such a manifest does.
+pub record IsPartOf (client : ℕ) (s : SessionState) (path index : List ℕ) (at : ChunkAt) (id : Id12)
+    (offset size : ℕ) (start journal : List Event) : Type 0 where
   pub found : chunk_found (nodes_seen s) path index ≡ Ok at
-  pub told : (entry_in s.held.chunks at.node index ≡ Some (Some (Object id offset size))) ⊎ WasToldPlace client s index at (Object id offset size) start journal
+  pub told : (entry_in s.held.chunks at.node index ≡ Some (Some (Object id offset size)))
+      ⊎ WasToldPlace client s index at (Object id offset size) start journal
 
 -- the object that has the chunk, by the session's own entry or by a manifest
-pub record HasItsChunk (client : ℕ) (s : SessionState) (path index : List ℕ) (id : Id12) (start journal : List Event) : Type 0 where
+pub record HasItsChunk (client : ℕ) (s : SessionState) (path index : List ℕ) (id : Id12)
+    (start journal : List Event) : Type 0 where
   pub at : ChunkAt
   pub offset : ℕ
   pub size : ℕ
   pub part : IsPartOf client s path index at id offset size start journal
 
--- the operations of a read: the get of a manifest that the base names, or of the object that the session's own entry or a manifest tells
-abbrev pub IsOfGet : ℕ → SessionState → (path index : List ℕ) → List Event → List Event → Op → Type 0
+-- the operations of a read: the get of a manifest that the base names, or of the object that the
+-- session's own entry or a manifest tells
+abbrev pub IsOfGet : ℕ → SessionState → (path index : List ℕ) → List Event
+    → List Event → Op → Type 0
 IsOfGet client s path index start journal op =
-    ((manifest : Id12) × NamesManifest s.rows manifest × (op ≡ Get (Manifest manifest))) ⊎ ((id : Id12) × HasItsChunk client s path index id start journal × (op ≡ Get (Chunk id)))
+    ((manifest : Id12) × NamesManifest s.rows manifest × (op ≡ Get (Manifest manifest)))
+    ⊎ ((id : Id12) × HasItsChunk client s path index id start journal × (op ≡ Get (Chunk id)))
 
 -- the client's own get found nothing at a key that the read asked for
-pub record WasNotThere (client : ℕ) (s : SessionState) (path index : List ℕ) (key : Key) (start journal : List Event) : Type 0 where
+pub record WasNotThere (client : ℕ) (s : SessionState) (path index : List ℕ) (key : Key)
+    (start journal : List Event) : Type 0 where
   pub of_get : IsOfGet client s path index start journal (Get key)
   pub absent : WasAbsent client key start journal
 
 -- what a manifest itself has isn't as long as a chunk of the array
-pub record HasUnfit (s : SessionState) (path index : List ℕ) (id : Id12) (bytes : List ℕ) (bad : Bad) : Type 0 where
+pub record HasUnfit (s : SessionState) (path index : List ℕ) (id : Id12) (bytes : List ℕ)
+    (bad : Bad) : Type 0 where
   pub at : ChunkAt
   pub found : chunk_found (nodes_seen s) path index ≡ Ok at
   pub file : ManifestFile
@@ -148,21 +181,28 @@ pub record HasUnfit (s : SessionState) (path index : List ℕ) (id : Id12) (byte
   pub has : entry_of at.node index file ≡ Some (Inline held)
   pub unfit : read_inline at.bytes held ≡ Err bad
 
--- the part of an object where the chunk is said to be isn't there, or isn't as long as a chunk of the array
-pub record IsUnfitPart (client : ℕ) (s : SessionState) (path index : List ℕ) (id : Id12) (bytes : List ℕ) (bad : Bad) (start journal : List Event) : Type 0 where
+-- the part of an object where the chunk is said to be isn't there, or isn't
+-- as long as a chunk of the array
+pub record IsUnfitPart (client : ℕ) (s : SessionState) (path index : List ℕ) (id : Id12)
+    (bytes : List ℕ) (bad : Bad) (start journal : List Event) : Type 0 where
   pub at : ChunkAt
   pub offset : ℕ
   pub size : ℕ
   pub part : IsPartOf client s path index at id offset size start journal
   pub unfit : read_chunk at.bytes offset size bytes ≡ Err bad
 
--- what was got is no manifest of its id, or what a manifest or an object has isn't a chunk of the array, for this cause
-abbrev pub IsUnfit : ℕ → SessionState → (path index : List ℕ) → Key → List ℕ → Bad → List Event → List Event → Type 0
-IsUnfit client s path index (Manifest id) bytes bad start journal = NamesManifest s.rows id × ((read_manifest id bytes ≡ Err bad) ⊎ HasUnfit s path index id bytes bad)
-IsUnfit client s path index (Chunk id) bytes bad start journal = IsUnfitPart client s path index id bytes bad start journal
+-- what was got is no manifest of its id, or what a manifest or an object has isn't a
+-- chunk of the array, for this cause
+abbrev pub IsUnfit : ℕ → SessionState → (path index : List ℕ) → Key → List ℕ → Bad
+    → List Event → List Event → Type 0
+IsUnfit client s path index (Manifest id) bytes bad start journal = NamesManifest s.rows id
+    × ((read_manifest id bytes ≡ Err bad) ⊎ HasUnfit s path index id bytes bad)
+IsUnfit client s path index (Chunk id) bytes bad start journal =
+    IsUnfitPart client s path index id bytes bad start journal
 IsUnfit client s path index _ bytes bad start journal = ⊥
 
-pub record WasUnfit (client : ℕ) (s : SessionState) (path index : List ℕ) (key : Key) (bad : Bad) (start journal : List Event) : Type 0 where
+pub record WasUnfit (client : ℕ) (s : SessionState) (path index : List ℕ) (key : Key) (bad : Bad)
+    (start journal : List Event) : Type 0 where
   pub bytes : List ℕ
   pub version : ℕ
   pub got : WasGot client key bytes version start journal
@@ -171,14 +211,23 @@ pub record WasUnfit (client : ℕ) (s : SessionState) (path index : List ℕ) (k
 abbrev pub FoundFault : Result ChunkAt EditFault → Refusal → Type 0
 FoundFault found why = (fault : EditFault) × (found ≡ Err fault) × (why ≡ refusal_of_edit fault)
 
-abbrev pub GetRefused : ℕ → SessionState → (path index : List ℕ) → List Event → Refusal → List Event → Type 0
-GetRefused client s path index start (Missing key) journal = WasNotThere client s path index key start journal
-GetRefused client s path index start (BadFile key bad) journal = WasUnfit client s path index key bad start journal
-GetRefused client s path index start NoMemory journal = Unit {0}
-GetRefused client s path index start why journal = FoundFault (chunk_found (nodes_seen s) path index) why
+abbrev pub GetCause : ℕ → SessionState → (path index : List ℕ) → List Event
+    → Refusal → List Event → Type 0
+GetCause client s path index start (Missing key) journal =
+    WasNotThere client s path index key start journal
+GetCause client s path index start (BadFile key bad) journal =
+    WasUnfit client s path index key bad start journal
+GetCause client s path index start NoMemory journal = Unit {0}
+GetCause client s path index start why journal =
+    FoundFault (chunk_found (nodes_seen s) path index) why
 
--- What the answer of a read of a chunk says of the journal, where the client had changed no branch between `start` and the call.
-abbrev pub GetTells : ℕ → SessionState → (path index : List ℕ) → List Event → Result Value Refusal → List Event → Type 0
-GetTells client s path index start (Ok value) journal = IsChunk s path index value journal × ChangedNothing client start journal
-GetTells client s path index start (Err StoreFault) journal = WasFailed client (IsOfGet client s path index start journal) start journal
-GetTells client s path index start (Err why) journal = GetRefused client s path index start why journal × ChangedNothing client start journal
+-- What the answer of a read of a chunk says of the journal, where the client had changed no
+-- branch between `start` and the call.
+abbrev pub GetTells : ℕ → SessionState → (path index : List ℕ) → List Event
+    → Result Value Refusal → List Event → Type 0
+GetTells client s path index start (Ok value) journal =
+    IsChunk s path index value journal × ChangedNothing client start journal
+GetTells client s path index start (Err StoreFault) journal =
+    WasFailed client (IsOfGet client s path index start journal) start journal
+GetTells client s path index start (Err why) journal =
+    GetCause client s path index start why journal × ChangedNothing client start journal

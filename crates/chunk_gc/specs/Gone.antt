@@ -37,7 +37,13 @@ pub record WasRemoved (client : ℕ) (key : Key) (start journal : List Event) : 
   pub stood : found before key ≡ Some there
   pub gone : found (before ++ event ∷ []) key ≡ None
 
--- In a legal journal in which the client made what a collection may, and which ends as one that ended well does, each key of what is
--- doomed was removed, by whomever, behind the client's listing that has it.
+-- In a legal journal in which the client made what a collection may, and which ends as
+-- one that ended well does, each key of what is doomed was removed, by whomever, behind
+-- the client's listing that has it.
 abbrev pub GoneLaw : Type 0
-GoneLaw = (cutoff client : ℕ) (start more : List Event) → Each IsGood start more → Each (OwesCollecting cutoff client start) start more → IsSwept cutoff (walk_of cutoff client start (start ++ more)) → (key : Key) → Doomed cutoff (walk_of cutoff client start (start ++ more)) key → WasRemoved client key start (start ++ more)
+GoneLaw =
+    (cutoff client : ℕ) (start more : List Event) → Each IsGood start more
+    → Each (OwesCollecting cutoff client start) start more
+    → IsSwept cutoff (walk_of cutoff client start (start ++ more)) → (key : Key)
+    → Doomed cutoff (walk_of cutoff client start (start ++ more)) key
+    → WasRemoved client key start (start ++ more)

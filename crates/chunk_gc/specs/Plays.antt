@@ -1,10 +1,12 @@
 -- What a collection does, from its beginning to its end (own).
 use Rattle.std.specs.Prelude.{ℕ, ◌+◌, Bool, false, List, [], ◌∷◌, Result, Ok, Err}
 use Rattle.object_store.specs.declared.keys.Key.{Key}
-use Rattle.object_store.specs.declared.keys.Key.TheVariants.{Snapshot, Manifest, Txn, Chunk, Branch, Tag, Tombstone, Lease}
+use Rattle.object_store.specs.declared.keys.Key.TheVariants.{Snapshot, Manifest, Txn, Chunk}
+use Rattle.object_store.specs.declared.keys.Key.TheVariants.{Branch, Tag, Tombstone, Lease}
 use Rattle.object_store.specs.declared.keys.Why.TheVariants.{Collect}
 use Rattle.object_store.specs.declared.events.Gone.{Gone}
-use Rattle.object_store.specs.declared.events.Gone.TheVariants.{Done as Gone_done, Absent as Gone_absent}
+use Rattle.object_store.specs.declared.events.Gone.TheVariants.{Done as Gone_done}
+use Rattle.object_store.specs.declared.events.Gone.TheVariants.{Absent as Gone_absent}
 use Rattle.object_store.specs.declared.events.Op.TheVariants.{Remove}
 use Rattle.object_store.specs.declared.events.Reply.{Reply}
 use Rattle.object_store.specs.declared.events.Reply.TheVariants.{Gone as Is_gone}
@@ -61,10 +63,12 @@ abbrev pub after_removal : Key → (Removed → Play Collected) → Removed → 
 after_removal key next r (Is_gone gone) = after_gone key next r gone
 after_removal key next r _ = ends_with r (Err StoreFault)
 
--- Removes these keys, one after the other. Without memory for a removal it ends with what was removed so far.
+-- Removes these keys, one after the other. Without memory for a removal it
+-- ends with what was removed so far.
 unfoldable pub sweep : List Key → Removed → Play Collected
 sweep [] r = ends_with r (Ok tt)
-sweep (key ∷ keys) r = Ask (Remove key Collect) (ends_with r (Err NoMemory)) (after_removal key (sweep keys) r)
+sweep (key ∷ keys) r =
+    Ask (Remove key Collect) (ends_with r (Err NoMemory)) (after_removal key (sweep keys) r)
 
 -- behind the marking
 abbrev pub after_marking : Removed → Result (List Key) Refusal → Play Collected

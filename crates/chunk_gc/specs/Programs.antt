@@ -1,5 +1,6 @@
 -- The program that marks, and answers the keys of what is doomed (own).
-use Rattle.std.specs.Prelude.{ℕ, zero, suc, ◌||◌, ◌&&◌, not, nat_lt, Bool, true, false, List, [], ◌∷◌, ◌++◌, Option, Some, None, Result, Ok, Err}
+use Rattle.std.specs.Prelude.{ℕ, zero, suc, ◌||◌, ◌&&◌, not, nat_lt, Bool, true, false}
+use Rattle.std.specs.Prelude.{List, [], ◌∷◌, ◌++◌, Option, Some, None, Result, Ok, Err}
 use Rattle.ice_ids.specs.declared.Id12.{Id12}
 use Rattle.ice_ids.specs.Text.{same_id12, initial_id}
 use Rattle.ice_ids.specs.Sets.{has_object, with_object}
@@ -7,15 +8,18 @@ use Rattle.snapshot_file.specs.declared.snapshot.SnapshotFile.{SnapshotFile}
 use Rattle.manifest_file.specs.declared.manifest.ManifestFile.{ManifestFile}
 use Rattle.held_manifest.specs.Objects.{objects_of}
 use Rattle.object_store.specs.declared.keys.Key.{Key}
-use Rattle.object_store.specs.declared.keys.Key.TheVariants.{Snapshot, Manifest, Txn, Chunk, Branch, Tag, Tombstone, Lease}
+use Rattle.object_store.specs.declared.keys.Key.TheVariants.{Snapshot, Manifest, Txn, Chunk}
+use Rattle.object_store.specs.declared.keys.Key.TheVariants.{Branch, Tag, Tombstone, Lease}
 use Rattle.object_store.specs.declared.keys.Part.{Part}
-use Rattle.object_store.specs.declared.keys.Part.TheVariants.{Snapshots, Manifests, Txns, Chunks, Branches, Tags, Leases}
+use Rattle.object_store.specs.declared.keys.Part.TheVariants.{Snapshots, Manifests, Txns}
+use Rattle.object_store.specs.declared.keys.Part.TheVariants.{Chunks, Branches, Tags, Leases}
 use Rattle.object_store.specs.declared.events.Entry.{Entry}
 use Rattle.object_store.specs.declared.events.Op.{Op}
 use Rattle.object_store.specs.declared.events.Op.TheVariants.{Get, List as ListPart}
 use Rattle.object_store.specs.declared.events.Reply.{Reply}
 use Rattle.store_api.specs.declared.machines.Refusal.{Refusal}
-use Rattle.store_api.specs.declared.machines.Refusal.TheVariants.{Missing, BadFile, TooDeep, StoreFault, NoMemory, CutoffAhead}
+use Rattle.store_api.specs.declared.machines.Refusal.TheVariants.{Missing, BadFile, TooDeep}
+use Rattle.store_api.specs.declared.machines.Refusal.TheVariants.{StoreFault, NoMemory, CutoffAhead}
 use Rattle.store_api.specs.Program.{Done, Ask}
 use Rattle.store_api.specs.Running.{Program, on_answer}
 use Rattle.live_refs.specs.Live.{live}
@@ -23,8 +27,9 @@ use Rattle.chunk_gc.specs.Lines.{with_ids}
 use Rattle.repo_objects.specs.Lines.{Line, no_ids, enter_some, enter_ids, enter_rows}
 use Rattle.chunk_gc.specs.Told.{first_told, listed_told, ref_got, snapshot_got, manifest_got}
 
--- What a marking holds: the snapshots and the manifests that are found, the snapshots that were read, the objects with chunks, the snapshots that
--- leases named, whether all is got that refs need, so that an absent object is passed over, and the keys of what is doomed.
+-- What a marking holds: the snapshots and the manifests that are found, the snapshots that were
+-- read, the objects with chunks, the snapshots that leases named, whether all is got that refs
+-- need, so that an absent object is passed over, and the keys of what is doomed.
 pub record Work : Type 0 where
   pub cutoff : ℕ
   pub snapshots : Line
@@ -36,7 +41,16 @@ pub record Work : Type 0 where
   pub doomed : List Key
 
 abbrev pub no_work : ℕ → Work
-no_work cutoff = record { cutoff = cutoff; snapshots = no_ids; files = no_ids; logs = []; chunks = []; leased = []; passes = false; doomed = [] }
+no_work cutoff = record {
+  cutoff = cutoff;
+  snapshots = no_ids;
+  files = no_ids;
+  logs = [];
+  chunks = [];
+  leased = [];
+  passes = false;
+  doomed = [];
+}
 
 abbrev pub Answer : Type 0
 Answer = Program (List Key)
@@ -59,7 +73,8 @@ with_lease id w = record w { leased = with_some id w.leased }
 -- gets each of these, and adds what it names
 unfoldable pub get_refs : (Option Id12 → Work → Work) → List Key → Work → (Work → Answer) → Answer
 get_refs add [] w next = next w
-get_refs add (key ∷ keys) w next = asks (Get key) (ref_got key) (λ id. get_refs add keys (add id w) next)
+get_refs add (key ∷ keys) w next =
+    asks (Get key) (ref_got key) (λ id. get_refs add keys (add id w) next)
 
 -- ---- manifests
 abbrev pub with_objects : Option ManifestFile → List Id12 → List Id12
@@ -75,11 +90,17 @@ leaving_files ids w = record w { files = record { all = w.files.all; todo = ids 
 -- gets each of these manifests
 unfoldable pub get_files : List Id12 → Work → (Work → Answer) → Answer
 get_files [] w next = next w
-get_files (id ∷ ids) w next = asks (Get (Manifest id)) (manifest_got w.passes id) (λ m. get_files ids (with_file m (leaving_files ids w)) next)
+get_files (id ∷ ids) w next =
+    asks (Get (Manifest id)) (manifest_got w.passes id)
+    (λ m. get_files ids (with_file m (leaving_files ids w)) next)
 
 -- ---- snapshots
 abbrev pub with_snapshot : Id12 → SnapshotFile → Work → Work
-with_snapshot id s w = record w { snapshots = enter_some s.parent w.snapshots; files = enter_rows s.nodes w.files; logs = with_object w.logs id }
+with_snapshot id s w = record w {
+  snapshots = enter_some s.parent w.snapshots;
+  files = enter_rows s.nodes w.files;
+  logs = with_object w.logs id;
+}
 
 abbrev pub leaving_snapshots : List Id12 → Work → Work
 leaving_snapshots ids w = record w { snapshots = record { all = w.snapshots.all; todo = ids } }
@@ -89,18 +110,23 @@ abbrev pub mark_files : Work → (Work → Answer) → Answer
 mark_files w next = get_files w.files.todo w next
 
 -- behind the get of a snapshot: what it names, and `again`; or `past`, where it was passed over
-abbrev pub mark_got : Id12 → (again : Work → Answer) → (past : Answer) → Work → Option SnapshotFile → Answer
+abbrev pub mark_got : Id12 → (again : Work → Answer) → (past : Answer) → Work
+    → Option SnapshotFile → Answer
 mark_got id again past w None = past
 mark_got id again past w (Some s) = mark_files (with_snapshot id s w) again
 
--- The marking: no more than so many snapshots are read. `end` follows it, with how many may be read yet.
+-- The marking: no more than so many snapshots are read. `end` follows it,
+-- with how many may be read yet.
 abbrev pub mark_last : (Work → Answer) → List Id12 → Work → Answer
 mark_last end [] w = end w
 mark_last end (id ∷ ids) w = Done (Err TooDeep)
 
 unfoldable pub mark_next : (end again : Work → Answer) → List Id12 → Work → Answer
 mark_next end again [] w = end w
-mark_next end again (id ∷ ids) w = asks (Get (Snapshot id)) (snapshot_got w.passes id) (mark_got id again (mark_next end again ids (leaving_snapshots ids w)) (leaving_snapshots ids w))
+mark_next end again (id ∷ ids) w =
+    asks (Get (Snapshot id)) (snapshot_got w.passes id)
+    (mark_got id again (mark_next end again ids (leaving_snapshots ids w))
+    (leaving_snapshots ids w))
 
 unfoldable pub mark : ℕ → (ℕ → Work → Answer) → Work → Answer
 mark zero end w = mark_last (end zero) w.snapshots.todo w
@@ -109,7 +135,8 @@ mark (suc left) end w = mark_next (end (suc left)) (λ v. mark left end v) w.sna
 -- ---- what is doomed
 -- whether a key is marked, where these are found, and read; what is no object is never removed
 abbrev pub is_kept : (snapshots files logs chunks : List Id12) → Key → Bool
-is_kept snapshots files logs chunks (Snapshot id) = same_id12 id initial_id || has_object snapshots id
+is_kept snapshots files logs chunks (Snapshot id) =
+    same_id12 id initial_id || has_object snapshots id
 is_kept snapshots files logs chunks (Txn id) = same_id12 id initial_id || has_object logs id
 is_kept snapshots files logs chunks (Manifest id) = has_object files id
 is_kept snapshots files logs chunks (Chunk id) = has_object chunks id
@@ -172,17 +199,23 @@ marking false left w = mark_needed left w
 marking true left w = mark_leased left w
 
 abbrev pub list_leases : ℕ → Work → Answer
-list_leases left w = asks (ListPart Leases) listed_told (λ l. get_refs with_lease (live l.entries) w (marking w.passes left))
+list_leases left w =
+    asks (ListPart Leases) listed_told
+    (λ l. get_refs with_lease (live l.entries) w (marking w.passes left))
 
 abbrev pub list_tags : ℕ → Work → Answer
-list_tags left w = asks (ListPart Tags) listed_told (λ l. get_refs with_ref (live l.entries) w (list_leases left))
+list_tags left w =
+    asks (ListPart Tags) listed_told (λ l. get_refs with_ref (live l.entries) w (list_leases left))
 
 abbrev pub list_branches : ℕ → Work → Answer
-list_branches left w = asks (ListPart Branches) (first_told w.cutoff) (λ l. get_refs with_ref (live l.entries) w (list_tags left))
+list_branches left w =
+    asks (ListPart Branches) (first_told w.cutoff)
+    (λ l. get_refs with_ref (live l.entries) w (list_tags left))
 
--- Lists the branches and gets each, then the tags without a tombstone, then the leases; marks what refs need, and then what leases need, of which it
--- reads so many snapshots at most; and lists the objects. It answers the keys of those that are older than the cutoff and not marked, in the order of
--- the listings.
+-- Lists the branches and gets each, then the tags without a tombstone, then the leases; marks
+-- what refs need, and then what leases need, of which it reads so many snapshots at most; and
+-- lists the objects. It answers the keys of those that are older than the cutoff and not
+-- marked, in the order of the listings.
 abbrev pub mark_program : (most cutoff : ℕ) → Answer
 mark_program most cutoff = list_branches most (no_work cutoff)
 

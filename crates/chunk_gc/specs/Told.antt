@@ -1,5 +1,6 @@
 -- What replies to the operations of a collection tell (own).
-use Rattle.std.specs.Prelude.{ℕ, nat_lt, ◌&&◌, Bool, true, false, if◌then◌else◌, Option, Some, None, Result, Ok, Err}
+use Rattle.std.specs.Prelude.{ℕ, nat_lt, ◌&&◌, Bool, true, false, if◌then◌else◌}
+use Rattle.std.specs.Prelude.{Option, Some, None, Result, Ok, Err}
 use Rattle.ice_ids.specs.declared.Id12.{Id12}
 use Rattle.snapshot_file.specs.declared.snapshot.SnapshotFile.{SnapshotFile}
 use Rattle.manifest_file.specs.declared.manifest.ManifestFile.{ManifestFile}
@@ -8,7 +9,8 @@ use Rattle.object_store.specs.declared.keys.Key.{Key}
 use Rattle.object_store.specs.declared.events.Got.TheVariants.{Found, Absent}
 use Rattle.object_store.specs.declared.events.Listed.{Listed}
 use Rattle.object_store.specs.declared.events.Reply.{Reply}
-use Rattle.object_store.specs.declared.events.Reply.TheVariants.{Got, New, Over, Gone, GoneAt, Listed as Is_listed, Failed}
+use Rattle.object_store.specs.declared.events.Reply.TheVariants.{Got, New, Over, Gone, GoneAt}
+use Rattle.object_store.specs.declared.events.Reply.TheVariants.{Listed as Is_listed, Failed}
 use Rattle.store_api.specs.declared.machines.Refusal.{Refusal}
 use Rattle.store_api.specs.declared.machines.Refusal.TheVariants.{CutoffAhead, StoreFault}
 use Rattle.repo_read.specs.Answers.{at_key, snapshot_told, manifest_told}

@@ -11,14 +11,17 @@ told_all cutoff w (event ∷ events) = told_all cutoff (told cutoff w event.op e
 
 -- what the client's events behind `start` told
 abbrev pub walk_of : (cutoff client : ℕ) → (start journal : List Event) → Walk
-walk_of cutoff client start journal = told_all cutoff fresh (events_of client (drop (length start) journal))
+walk_of cutoff client start journal =
+    told_all cutoff fresh (events_of client (drop (length start) journal))
 
 -- each of these events of its own is one that a collection may make
 abbrev pub MayAll : ℕ → Walk → List Event → Type 0
 MayAll cutoff w [] = Unit {0}
-MayAll cutoff w (event ∷ events) = May cutoff w event.op × MayAll cutoff (told cutoff w event.op event.reply) events
+MayAll cutoff w (event ∷ events) =
+    May cutoff w event.op × MayAll cutoff (told cutoff w event.op event.reply) events
 
--- An event of the client is one that its collection may make next, by what it was told behind `start`: a fact of each event and the
--- journal before it.
+-- An event of the client is one that its collection may make next, by what it was told behind
+-- `start`: a fact of each event and the journal before it.
 abbrev pub OwesCollecting : (cutoff client : ℕ) → (start before : List Event) → Event → Type 0
-OwesCollecting cutoff client start before event = event.client ≡ client → May cutoff (walk_of cutoff client start before) event.op
+OwesCollecting cutoff client start before event =
+    event.client ≡ client → May cutoff (walk_of cutoff client start before) event.op

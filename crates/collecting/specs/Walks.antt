@@ -1,5 +1,7 @@
--- A collection, by what its operations were told so far: what it may do next, what is marked, and what is doomed (own).
-use Rattle.std.specs.Prelude.{◌≡◌, ◌⊎◌, ℕ, ◌+◌, ◌<◌, nat_lt, Bool, true, false, if◌then◌else◌, List, [], ◌∷◌, ◌++◌, Contains, Option, Some, None}
+-- A collection, by what its operations were told so far: what it may do next, what is
+-- marked, and what is doomed (own).
+use Rattle.std.specs.Prelude.{◌≡◌, ◌⊎◌, ℕ, ◌+◌, ◌<◌, nat_lt, Bool, true, false, if◌then◌else◌}
+use Rattle.std.specs.Prelude.{List, [], ◌∷◌, ◌++◌, Contains, Option, Some, None}
 use Rattle.ice_ids.specs.Text.{initial_id}
 use Rattle.ice_ids.specs.declared.Id12.{Id12}
 use Rattle.snapshot_file.specs.declared.snapshot.SnapshotFile.{SnapshotFile}
@@ -7,20 +9,25 @@ use Rattle.manifest_file.specs.declared.manifest.ManifestFile.{ManifestFile}
 use Rattle.repo_objects.specs.Readings.{snapshot_by, manifest_by, ref_of}
 use Rattle.repo_objects.specs.Trees.{NamesManifest}
 use Rattle.object_store.specs.declared.keys.Key.{Key}
-use Rattle.object_store.specs.declared.keys.Key.TheVariants.{Snapshot, Manifest, Txn, Chunk, Branch, Tag, Tombstone, Lease}
+use Rattle.object_store.specs.declared.keys.Key.TheVariants.{Snapshot, Manifest, Txn, Chunk}
+use Rattle.object_store.specs.declared.keys.Key.TheVariants.{Branch, Tag, Tombstone, Lease}
 use Rattle.object_store.specs.declared.keys.Part.{Part}
-use Rattle.object_store.specs.declared.keys.Part.TheVariants.{Snapshots, Manifests, Txns, Chunks, Branches, Tags, Leases}
+use Rattle.object_store.specs.declared.keys.Part.TheVariants.{Snapshots, Manifests, Txns}
+use Rattle.object_store.specs.declared.keys.Part.TheVariants.{Chunks, Branches, Tags, Leases}
 use Rattle.object_store.specs.declared.keys.Why.TheVariants.{Collect}
 use Rattle.object_store.specs.declared.events.Op.{Op}
-use Rattle.object_store.specs.declared.events.Op.TheVariants.{Get, PutNew, PutOver, Remove, RemoveAt, List as ListPart}
+use Rattle.object_store.specs.declared.events.Op.TheVariants.{Get, PutNew, PutOver, Remove}
+use Rattle.object_store.specs.declared.events.Op.TheVariants.{RemoveAt, List as ListPart}
 use Rattle.object_store.specs.declared.events.Got.{Got}
 use Rattle.object_store.specs.declared.events.Got.TheVariants.{Found, Absent}
 use Rattle.object_store.specs.declared.events.Gone.{Gone}
-use Rattle.object_store.specs.declared.events.Gone.TheVariants.{Done as Gone_done, Absent as Gone_absent}
+use Rattle.object_store.specs.declared.events.Gone.TheVariants.{Done as Gone_done}
+use Rattle.object_store.specs.declared.events.Gone.TheVariants.{Absent as Gone_absent}
 use Rattle.object_store.specs.declared.events.Entry.{Entry}
 use Rattle.object_store.specs.declared.events.Listed.{Listed}
 use Rattle.object_store.specs.declared.events.Reply.{Reply}
-use Rattle.object_store.specs.declared.events.Reply.TheVariants.{Got as Is_got, Gone as Is_gone, Listed as Is_listed}
+use Rattle.object_store.specs.declared.events.Reply.TheVariants.{Got as Is_got, Gone as Is_gone}
+use Rattle.object_store.specs.declared.events.Reply.TheVariants.{Listed as Is_listed}
 use Rattle.live_refs.specs.Live.{live}
 use Rattle.collecting.specs.Marks.{MarkedBy, FoundBy}
 
@@ -52,7 +59,21 @@ pub record Walk : Type 0 where
   pub over : Bool  -- an answer ended it
 
 abbrev pub fresh : Walk
-fresh = record { branches = None; tags = None; leases = None; roots = []; leased = []; reads = []; files = []; absent = []; lists = 0; listed = []; answered = []; removed = []; over = false }
+fresh = record {
+  branches = None;
+  tags = None;
+  leases = None;
+  roots = [];
+  leased = [];
+  reads = [];
+  files = [];
+  absent = [];
+  lists = 0;
+  listed = [];
+  answered = [];
+  removed = [];
+  over = false;
+}
 
 -- ---- what is marked, and what is doomed
 -- by what refs and leases named
@@ -88,7 +109,8 @@ pub record IsFileRead (w : Walk) (id : Id12) : Type 0 where
   pub read : Contains w.files file
   pub id_is : file.id ≡ id
 
--- Each snapshot that is found so was got (the initial one needn't be), and each manifest that these name, or it was passed over.
+-- Each snapshot that is found so was got (the initial one needn't be), and each manifest that
+-- these name, or it was passed over.
 pub record IsClosedBy (Among : Id12 → Type 0) (Passed : Key → Type 0) (w : Walk) : Type 0 where
   pub snapshots : (id : Id12) → Among id → (id ≡ initial_id) ⊎ (IsRead w id ⊎ Passed (Snapshot id))
   pub manifests : (id : Id12) → IsNamedBy Among w id → IsFileRead w id ⊎ Passed (Manifest id)
@@ -99,12 +121,14 @@ Nothing key = ⊥
 abbrev pub IsAbsent : Walk → Key → Type 0
 IsAbsent w key = Contains w.absent key
 
--- All that refs need was got, and nothing of it passed over; and of all that is found, nothing but what a get found absent.
+-- All that refs need was got, and nothing of it passed over; and of all that is found,
+-- nothing but what a get found absent.
 pub record IsClosed (w : Walk) : Type 0 where
   pub needed : IsClosedBy (IsNeeded w) Nothing w
   pub all : IsClosedBy (IsFound w) (IsAbsent w) w
 
--- all objects are listed; this is the key of an object that is listed, older than the cutoff, and not marked
+-- all objects are listed; this is the key of an object that is listed, older
+-- than the cutoff, and not marked
 pub record Doomed (cutoff : ℕ) (w : Walk) (key : Key) : Type 0 where
   pub whole : w.lists ≡ 4
   pub entry : Entry
@@ -215,9 +239,12 @@ told_object w key (Absent now) = record w { absent = w.absent ++ key ∷ [] }
 
 -- by the branches, the tags and the leases that are still to be got
 abbrev pub told_got : (branches tags leases : Option (List Key)) → Walk → Key → Got → Walk
-told_got (Some (next ∷ behind)) tags leases w key got = told_ref (record w { branches = Some behind }) got
-told_got (Some []) (Some (next ∷ behind)) leases w key got = told_ref (record w { tags = Some behind }) got
-told_got (Some []) (Some []) (Some (next ∷ behind)) w key got = told_lease (record w { leases = Some behind }) got
+told_got (Some (next ∷ behind)) tags leases w key got =
+    told_ref (record w { branches = Some behind }) got
+told_got (Some []) (Some (next ∷ behind)) leases w key got =
+    told_ref (record w { tags = Some behind }) got
+told_got (Some []) (Some []) (Some (next ∷ behind)) w key got =
+    told_lease (record w { leases = Some behind }) got
 told_got (Some []) (Some []) (Some []) w key got = told_object w key got
 told_got (Some []) (Some []) None w key got = ended w
 told_got (Some []) None leases w key got = ended w
@@ -225,7 +252,8 @@ told_got None tags leases w key got = ended w
 
 -- the first listing tells the time: where that is before the cutoff, it is over
 abbrev pub told_listed : ℕ → Walk → Part → Listed → Walk
-told_listed cutoff w Branches l = if nat_lt l.now cutoff then ended w else record w { branches = Some (live l.entries) }
+told_listed cutoff w Branches l =
+    if nat_lt l.now cutoff then ended w else record w { branches = Some (live l.entries) }
 told_listed cutoff w Tags l = record w { tags = Some (live l.entries) }
 told_listed cutoff w Leases l = record w { leases = Some (live l.entries) }
 told_listed cutoff w Snapshots l = record w { lists = w.lists + 1; listed = w.listed ++ l.entries }
@@ -234,7 +262,10 @@ told_listed cutoff w Manifests l = record w { lists = w.lists + 1; listed = w.li
 told_listed cutoff w Chunks l = record w { lists = w.lists + 1; listed = w.listed ++ l.entries }
 
 abbrev pub told_gone : Walk → Key → Gone → Walk
-told_gone w key (Gone_done now) = record w { answered = w.answered ++ key ∷ []; removed = w.removed ++ key ∷ [] }
+told_gone w key (Gone_done now) = record w {
+  answered = w.answered ++ key ∷ [];
+  removed = w.removed ++ key ∷ [];
+}
 told_gone w key (Gone_absent now) = record w { answered = w.answered ++ key ∷ [] }
 
 -- what isn't an answer to the operation ends it, as a failure does

@@ -1,4 +1,5 @@
--- What the program says of itself (own): for each command what it reads and prints, the statuses, and an example.
+-- What the program says of itself (own): for each command what it reads and
+-- prints, the statuses, and an example.
 use Rattle.std.specs.Prelude.{ℕ, List, ◌++◌, codes}
 use Rattle.command_words.specs.declared.reading.Topic.{Topic}
 use Rattle.command_words.specs.declared.reading.Topic.TheVariants as T

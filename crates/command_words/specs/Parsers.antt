@@ -1,7 +1,9 @@
--- What clap reads the words of each command as (own). Of all words the first one is the command's name.
+-- What clap reads the words of each command as (own). Of all words the
+-- first one is the command's name.
 use Rattle.std.specs.Prelude.{ℕ, pos, List, [], Option, Some, true, codes, option_map, unwrap_or}
 use Rattle.std.specs.Str.Parse.{digits_value, without_leading_plus}
-use Rattle.clap.specs.Words.{App, Rule, Text, Kinds, first_of, one_of, new_app, new_rule, with_rule, matches_of, fault_of}
+use Rattle.clap.specs.Words.{App, Rule, Text, Kinds, first_of, one_of, new_app}
+use Rattle.clap.specs.Words.{new_rule, with_rule, matches_of, fault_of}
 use Rattle.clap.specs.declared.builder.action.ArgAction.TheVariants.{Set, SetTrue}
 use Rattle.clap.specs.declared.builder.value_parser.ValueParser.{ValueParser}
 use Rattle.clap.specs.declared.builder.value_parser.ValueParser.TheVariants as vp
@@ -15,7 +17,11 @@ abbrev pub count_parser : ValueParser
 count_parser = vp.Signed (pos 1) (pos 60)
 
 abbrev pub count_rule : Rule
-count_rule = record (new_rule (codes "n")) { action = Some Set; required = true; parser = Some count_parser }
+count_rule = record (new_rule (codes "n")) {
+  action = Some Set;
+  required = true;
+  parser = Some count_parser;
+}
 
 -- `play [--dir PATH]`, and clap's own `--help`
 unfoldable pub play : App
@@ -32,11 +38,16 @@ word_rule id = record (new_rule id) { action = Some Set; required = true }
 -- `cells BRANCH PATH FROM TO [--dir PATH]`, and clap's own `--help`
 unfoldable pub cells : App
 cells =
-    with_rule (with_rule (with_rule (with_rule (with_rule (new_app (codes "cells")) (word_rule (codes "branch"))) (word_rule (codes "path"))) (word_rule (codes "from"))) (word_rule (codes "to"))) dir_rule
+    with_rule (with_rule (with_rule (with_rule (with_rule (new_app (codes "cells"))
+    (word_rule (codes "branch"))) (word_rule (codes "path")))
+    (word_rule (codes "from"))) (word_rule (codes "to"))) dir_rule
 
 -- `--progress`
 abbrev pub progress_rule : Rule
-progress_rule = record (new_rule (codes "progress")) { long = Some (codes "progress"); action = Some SetTrue }
+progress_rule = record (new_rule (codes "progress")) {
+  long = Some (codes "progress");
+  action = Some SetTrue;
+}
 
 -- `check [--dir PATH] [--progress]`, and clap's own `--help`
 unfoldable pub check : App
@@ -44,7 +55,9 @@ check = with_rule (with_rule (new_app (codes "check")) dir_rule) progress_rule
 
 -- `mirror FROM TO`, and clap's own `--help`
 unfoldable pub mirror : App
-mirror = with_rule (with_rule (new_app (codes "mirror")) (word_rule (codes "from"))) (word_rule (codes "to"))
+mirror =
+    with_rule (with_rule (new_app (codes "mirror")) (word_rule (codes "from")))
+    (word_rule (codes "to"))
 
 -- why clap refuses the words; empty where it takes them
 unfoldable pub kinds_of : App → List Text → Kinds
@@ -64,4 +77,6 @@ path_in id words = unwrap_or (first_of id (matches_of mirror words)) []
 
 -- the number that the words of `grow` give
 unfoldable pub count_in : List Text → Option ℕ
-count_in words = option_map (λ t. digits_value 10 (without_leading_plus t)) (one_of (codes "n") (matches_of grow words))
+count_in words =
+    option_map (λ t. digits_value 10 (without_leading_plus t))
+    (one_of (codes "n") (matches_of grow words))

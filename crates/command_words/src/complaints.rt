@@ -38,6 +38,10 @@ pub enum Complaint<'a> {
 }
 
 impl fmt::Display for Complaint<'_> {
+    ghost use Rattle.command_words.specs.Complaints.{complaint_text};
+
+    ghost output = { complaint_text };
+
     fn fmt<W: fmt::Write>(&self, f: &mut fmt::Formatter<W>) -> fmt::Result {
         match self {
             Complaint::NoCommand => write!(f, "error: a command is missing{HELP}"),
@@ -83,7 +87,8 @@ fn play_complaint<'a>(alloc: Global, words: &'a [Word]) -> Result<Option<Complai
 impl<'a> CellsGiven<'a> {
     /// What is wrong with the four words, the first that is.
     fn complaint(self) -> Option<Complaint<'a>>
-        ensures { (words : List Text) → Complains words (box_said (box_seen self.entry)) result }
+        ensures { (words : List Text) → box_seen self.entry ≡ box_in words
+            → Complains words (box_said (box_seen self.entry)) result }
     {
         if !is_one(self.branch) {
             Some(Complaint::NotOneWord(self.branch))

@@ -1,9 +1,9 @@
 //! What the words say.
 
-ghost use Rattle.std.specs.Prelude.{◌≡◌, List, Ok, Err, Option, None, Result as TheResult, IfOk, option_map};
+ghost use Rattle.std.specs.Prelude.{◌≡◌, ◌≢◌, List, Ok, Err, Option, None, Result as TheResult, IfOk, IsTrue, option_map};
 ghost use Rattle.command_words.specs.Parsers.{cells, check, grow, kinds_of, mirror, play};
 ghost use Rattle.clap.specs.Words.{App, Text};
-ghost use Rattle.command_words.specs.Words.{IsInRange, has_progress, shows_progress, IsSaid, alone, answer_of, are_ones, asks_help, asks_version, box_dir, box_in, box_said, command_of, dir_beside, count_of, dir_of, is_one, name_of, pair_in, pair_of, pair_where, path_of, paths_of};
+ghost use Rattle.command_words.specs.Words.{IsInRange, has_progress, shows_progress, IsSaid, alone, answer_of, are_ones, asks_clap, asks_help, asks_version, box_dir, box_in, box_said, command_of, dir_beside, count_of, dir_of, is_one, name_of, pair_in, pair_of, pair_where, path_of, paths_of};
 ghost use Rattle.command_words.specs.inside.Parsing.{IsRefused, IsDir, IsDirOf, box_seen};
 
 use crate::parsers::{
@@ -257,7 +257,8 @@ fn mirror_said(alloc: Global, words: &[Word]) -> Result<Command, WordsFault>
 
 /// A command behind which no word stands.
 fn alone(others: &[Word], command: Command) -> Result<Command, WordsFault>
-    ensures { IsSaid (alone others.now command) result }
+    ensures says { IsSaid (alone others.now command) result }
+    ensures memory { result ≢ Err WordsFault.NoMemory }
 {
     if others.is_empty() {
         Ok(command)
@@ -273,10 +274,12 @@ fn alone(others: &[Word], command: Command) -> Result<Command, WordsFault>
 /// and `Words` exactly where clap refuses the others for another cause than memory, where one of the
 /// four words of `cells` holds a space or a line feed, or where a word stands behind `--help` or
 /// `--version`. A command's own `--help` asks for help on it. `-h` and `-V` are short for those. `mirror
-/// FROM TO` is `Unknown`, since it is done over two directories, which `location_of` tells.
+/// FROM TO` is `Unknown`, since it is done over two directories, which `location_of` tells. Memory is
+/// taken only where clap reads the words.
 pub fn read_words(alloc: Global, words: &[Word]) -> Result<Command, WordsFault>
     ensures says { IsSaid (command_of words.now) result }
     ensures range { IfOk result IsInRange }
+    ensures memory { result ≡ Err WordsFault.NoMemory → IsTrue (asks_clap words.now) }
 {
     let [first, others @ ..] = words else {
         return Err(WordsFault::Usage(UsageFault::NoCommand));

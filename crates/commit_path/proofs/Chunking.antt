@@ -17,7 +17,7 @@ use Rattle.ice_ids.specs.Text.{same_id8, IsId8, IsId12}
 use Rattle.flat_tables.specs.Rows.{Ascends}
 use Rattle.zarr_meta.specs.Grids.{most_chunks}
 use Rattle.zarr_tree.specs.Nodes.{are_low, same_numbers}
-use Rattle.zarr_tree.specs.Held.{Entry, entry_in}
+use Rattle.zarr_tree.specs.Held.{HeldEntry, entry_in}
 use Rattle.zarr_changes.specs.Sets.{chunks_of}
 use Rattle.manifest_file.specs.declared.manifest.Place.{Place}
 use Rattle.manifest_file.specs.declared.manifest.Place.TheVariants.{Inline}
@@ -76,11 +76,11 @@ all-gotten P (x ∷ xs) f = (f zero x refl, all-gotten P xs (λ k y e. f (suc k)
 
 -- ---- a chunk of the session's own, and one of an old manifest
 -- what a change says of an index is its entry
-pub changed-entry : {P : Type 0} (es : List (Entry P)) (node : Id8) (i : List ℕ) → option_map (λ (c : List ℕ × Option P). c.1) (find (λ (c : List ℕ × Option P). bytes_eq c.0 i) (chunks_of es node)) ≡ entry_in es node i
+pub changed-entry : {P : Type 0} (es : List (HeldEntry P)) (node : Id8) (i : List ℕ) → option_map (λ (c : List ℕ × Option P). c.1) (find (λ (c : List ℕ × Option P). bytes_eq c.0 i) (chunks_of es node)) ≡ entry_in es node i
 changed-entry {P} [] node i = refl
-changed-entry {P} (x ∷ xs) node i = elim (same_id8 x.0 node) as (λ b. option_map (λ (c : List ℕ × Option P). c.1) (find (λ (c : List ℕ × Option P). bytes_eq c.0 i) (map (λ (row : Entry P). (row.1, row.2)) (cond b (x ∷ filter (λ (row : Entry P). same_id8 row.0 node) xs) (filter (λ (row : Entry P). same_id8 row.0 node) xs)))) ≡ option_map (λ (row : Entry P). row.2) (cond (b && same_numbers x.1 i) (Some x) (find (λ (row : Entry P). same_id8 row.0 node && same_numbers row.1 i) xs))) [
+changed-entry {P} (x ∷ xs) node i = elim (same_id8 x.0 node) as (λ b. option_map (λ (c : List ℕ × Option P). c.1) (find (λ (c : List ℕ × Option P). bytes_eq c.0 i) (map (λ (row : HeldEntry P). (row.1, row.2)) (cond b (x ∷ filter (λ (row : HeldEntry P). same_id8 row.0 node) xs) (filter (λ (row : HeldEntry P). same_id8 row.0 node) xs)))) ≡ option_map (λ (row : HeldEntry P). row.2) (cond (b && same_numbers x.1 i) (Some x) (find (λ (row : HeldEntry P). same_id8 row.0 node && same_numbers row.1 i) xs))) [
   | true ↦ ap (λ b. option_map (λ (c : List ℕ × Option P). c.1) (cond b (Some (x.1, x.2)) (find (λ (c : List ℕ × Option P). bytes_eq c.0 i) (chunks_of xs node)))) (same-test x.1 i)
-      ∙ elim (same_numbers x.1 i) as (λ b. option_map (λ (c : List ℕ × Option P). c.1) (cond b (Some (x.1, x.2)) (find (λ (c : List ℕ × Option P). bytes_eq c.0 i) (chunks_of xs node))) ≡ option_map (λ (row : Entry P). row.2) (cond b (Some x) (find (λ (row : Entry P). same_id8 row.0 node && same_numbers row.1 i) xs))) [ true ↦ refl | false ↦ changed-entry xs node i ]
+      ∙ elim (same_numbers x.1 i) as (λ b. option_map (λ (c : List ℕ × Option P). c.1) (cond b (Some (x.1, x.2)) (find (λ (c : List ℕ × Option P). bytes_eq c.0 i) (chunks_of xs node))) ≡ option_map (λ (row : HeldEntry P). row.2) (cond b (Some x) (find (λ (row : HeldEntry P). same_id8 row.0 node && same_numbers row.1 i) xs))) [ true ↦ refl | false ↦ changed-entry xs node i ]
   | false ↦ changed-entry xs node i
 ]
   where
@@ -126,10 +126,10 @@ look-old node (l ∷ ls) index place e = elim (or-some (entry_seen node index l)
       record { listed = r.listed; among = inr r.among; within_is = r.within_is; array = r.array; array_in = r.array_in; chunk = r.chunk; chunk_in = r.chunk_in; index_is = r.index_is; place_is = r.place_is }
 ]
 
-abbrev pub IsFrom : Id8 → List (Entry Place) → List Listed → List ℕ → Place → Type 0
+abbrev pub IsFrom : Id8 → List (HeldEntry Place) → List Listed → List ℕ → Place → Type 0
 IsFrom node es old index place = (entry_in es node index ≡ Some (Some place)) ⊎ IsOld node old index place
 
-merged-from : (rank : ℕ) (node : Id8) (es : List (Entry Place)) (old : List Listed) (index : List ℕ) (place : Place) → merged rank node old (chunks_of es node) index ≡ Some place → IsFrom node es old index place
+merged-from : (rank : ℕ) (node : Id8) (es : List (HeldEntry Place)) (old : List Listed) (index : List ℕ) (place : Place) → merged rank node old (chunks_of es node) index ≡ Some place → IsFrom node es old index place
 merged-from rank node es old index place e =
     by_entry (changed_at index (chunks_of es node)) (sym (changed-entry es node index)) (where-true (nat_eq (length index) rank) (unwrap_or (changed_at index (chunks_of es node)) (look_up node index old)) place e).1
   where
@@ -138,7 +138,7 @@ merged-from rank node es old index place e =
     by_entry (Some entry) h k = inl (h ∙ ap (λ (x : Option Place). Some x) k)
 
 -- ---- the chunks of the new manifest
-module _ (rank : ℕ) (node : Id8) (es : List (Entry Place)) (old : List Listed) (array : ArrayRefs) (is : IsMerged rank node old (chunks_of es node) (Some array)) where
+module _ (rank : ℕ) (node : Id8) (es : List (HeldEntry Place)) (old : List Listed) (array : ArrayRefs) (is : IsMerged rank node old (chunks_of es node) (Some array)) where
   at-place : (refs : List ChunkRef) → Ascends ref_key None refs → (k : ℕ) (r : ChunkRef) → slice_get refs k ≡ Some r → place_of r.index refs ≡ Some r.place
   at-place refs ascends k r e = ap (option_map (λ (x : ChunkRef). x.place)) (found_at ref_key None refs r.index k r ascends e (equal-of _ (same_path-refl r.index)))
 
@@ -203,7 +203,7 @@ extent-fits k refs low e x =
 few-refs : (array : ArrayRefs) → nat_lt refs_limit (length array.refs) ≡ false → refs_of (array ∷ []) ≤ refs_limit
 few-refs array e = grind (arith, nat_tests)
 
-module _ (node : Id8) (es : List (Entry Place)) (old : List Listed) (sized : AreSized es) (fine : (l : Listed) → Among old l → IsFineOld l) where
+module _ (node : Id8) (es : List (HeldEntry Place)) (old : List Listed) (sized : AreSized es) (fine : (l : Listed) → Among old l → IsFineOld l) where
   pub low-from : (index : List ℕ) (place : Place) → IsFrom node es old index place → are_low index ≡ true
   low-from index place (inl e) = (sized node index (Some place) e).0
   low-from index place (inr o) = within-low o.listed.0 index (fine o.listed o.among).extents o.within_is

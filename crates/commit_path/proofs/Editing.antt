@@ -13,14 +13,14 @@ use Rattle.ice_ids.proofs.Drawn.{drawn8-IsId8}
 use Rattle.zarr_path.specs.Paths.{path_cmp, same_path, is_path, is_within}
 use Rattle.zarr_path.proofs.OrderLaws.{same_path-true}
 use Rattle.zarr_meta.specs.declared.faults.MetaFault.{MetaFault}
-use Rattle.zarr_meta.specs.declared.views.View.{View}
+use Rattle.zarr_meta.specs.declared.views.MetaView.{MetaView}
 use Rattle.zarr_meta.specs.Meta.{meta_of}
 use Rattle.zarr_tree.specs.declared.edit.EditFault.{EditFault}
 use Rattle.zarr_tree.specs.Nodes.{Node, is_metadata, SameFrozen}
 use Rattle.zarr_tree.specs.Trees.{Tree, node_at}
 use Rattle.zarr_tree.specs.Edits.{most_nodes, Add, SetMeta, Drop, refusal, with_text}
 use Rattle.zarr_tree.specs.Changes.{Changes, has_id_within, nodes_under, apply, with_meta, extended, IsOver}
-use Rattle.zarr_tree.specs.Held.{Held, Entry, entry_in, changes_of, nodes_over}
+use Rattle.zarr_tree.specs.Held.{Held, HeldEntry, entry_in, changes_of, nodes_over}
 use Rattle.zarr_tree.proofs.Maps.{get-put, get-where}
 use Rattle.zarr_tree.proofs.NodeLaws.{frozen-trans}
 use Rattle.zarr_tree.proofs.Apply.{id-true, Own, node_cases}
@@ -68,10 +68,10 @@ pub result_same : {A : Type 0} (x y : A) → ◌≡◌ {A = Result A Refusal} (O
 result_same x y e = cc
 
 -- a text without fault is metadata
-no_fault : (fault : Result View MetaFault → Option MetaFault) (text : List ℕ) → TellsFaults fault → fault (meta_of text) ≡ None → is_metadata text ≡ true
+no_fault : (fault : Result MetaView MetaFault → Option MetaFault) (text : List ℕ) → TellsFaults fault → fault (meta_of text) ≡ None → is_metadata text ≡ true
 no_fault fault text tells e = by_reading (meta_of text) e
   where
-    by_reading : (r : Result View MetaFault) → fault r ≡ None → is_some (result_ok r) ≡ true
+    by_reading : (r : Result MetaView MetaFault) → fault r ≡ None → is_some (result_ok r) ≡ true
     by_reading (Ok v) e = refl
     by_reading (Err bad) e = let told : fault (Err bad) ≡ Some bad = tells bad in cc
 
@@ -95,7 +95,7 @@ drew s t path text id (Some i) d e =
       is = sym (ap (λ (q : Id8 × SessionState). q.1) p) ∙ ap (with_node s path text) same;
     }
 
-pub node-added : (fault : Result View MetaFault → Option MetaFault) (s t : SessionState) (path text : List ℕ) (id : Id8) → TellsFaults fault → added fault s path text ≡ Ok (id, t) → Added s t path text id
+pub node-added : (fault : Result MetaView MetaFault → Option MetaFault) (s t : SessionState) (path text : List ℕ) (id : Id8) → TellsFaults fault → added fault s path text ≡ Ok (id, t) → Added s t path text id
 unfolding added
 node-added fault s t path text id tells e =
     let by_text = good (fault (meta_of text)) _ (id, t) (written (writes s) _ (id, t) e) in
@@ -104,7 +104,7 @@ node-added fault s t path text id tells e =
     record { metadata = no_fault fault text tells by_text.0; allowed = by_tree.0; drawn = by_draw.drawn; is = by_draw.is }
 
 -- what an added node leaves, whatever its text
-pub node-is : (fault : Result View MetaFault → Option MetaFault) (s t : SessionState) (path text : List ℕ) (id : Id8) → added fault s path text ≡ Ok (id, t) → t ≡ with_node s path text id
+pub node-is : (fault : Result MetaView MetaFault → Option MetaFault) (s t : SessionState) (path text : List ℕ) (id : Id8) → added fault s path text ≡ Ok (id, t) → t ≡ with_node s path text id
 unfolding added
 node-is fault s t path text id e =
     let by_text = good (fault (meta_of text)) _ (id, t) (written (writes s) _ (id, t) e) in
@@ -115,7 +115,7 @@ node-is fault s t path text id e =
 pub record TextSet (s t : SessionState) (path text : List ℕ) : Type 0 where
   pub metadata : is_metadata text ≡ true
   pub allowed : text_refusal (nodes_seen s) path text ≡ None
-  pub is : t ≡ session.with_text s path text
+  pub is : t ≡ session.text_changed s path text
 
 pub text-set : (s t : SessionState) (path text : List ℕ) → meta_set s path text ≡ Ok t → TextSet s t path text
 unfolding meta_set
@@ -126,7 +126,7 @@ text-set s t path text e =
 
 pub record Dropped (s t : SessionState) (path : List ℕ) : Type 0 where
   pub allowed : drop_refusal (nodes_seen s) path ≡ None
-  pub is : t ≡ session.without s path
+  pub is : t ≡ session.node_gone s path
 
 pub node-dropped : (s t : SessionState) (path : List ℕ) → node_dropped s path ≡ Ok t → Dropped s t path
 unfolding node_dropped
@@ -259,14 +259,14 @@ pub opened-by : (s : SessionState) (h : Held Place) (ids : AnyIds) (journal : Li
 opened-by s h ids journal o objects chunks = record { named = o.named; put = o.put; had = o.had; rows = o.rows; objects = objects; chunks = chunks }
 
 -- ---- fewer entries
-pub sized-fewer : (old new : List (Entry Place)) → AreFewer old new → AreSized old → AreSized new
+pub sized-fewer : (old new : List (HeldEntry Place)) → AreFewer old new → AreSized old → AreSized new
 sized-fewer old new f z node i entry e = z node i entry (f node i entry e)
 
 pub fewer-opened : (s : SessionState) (h : Held Place) (ids : AnyIds) (journal : List Event) → AreFewer s.held.chunks h.chunks → IsOpened s journal → IsOpened (record s { held = h; ids = ids }) journal
 fewer-opened s h ids journal f o = opened-by s h ids journal o (λ node i id offset size e. o.objects node i id offset size (f node i (Some (Object id offset size)) e)) (λ once node i place e. o.chunks once node i place (f node i (Some place) e))
 
-pub same-fewer : (old new : List (Entry Place)) → new ≡ old → AreFewer old new
-same-fewer old new same node i x e = ap (λ (rows : List (Entry Place)). entry_in rows node i) (sym same) ∙ e
+pub same-fewer : (old new : List (HeldEntry Place)) → new ≡ old → AreFewer old new
+same-fewer old new same node i x e = ap (λ (rows : List (HeldEntry Place)). entry_in rows node i) (sym same) ∙ e
 
 pub added-spelled : (s t : SessionState) (path text : List ℕ) (id : Id8) → Added s t path text id → is_path path ≡ true → is_utf8 path ≡ true → IsSpelled s → IsSpelled t
 added-spelled s t path text id a is_a utf8 w =

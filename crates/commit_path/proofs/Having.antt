@@ -7,7 +7,7 @@ use Rattle.std.proofs.lemmas.List.Elements.{Contains-append_right}
 use Rattle.ice_ids.specs.declared.Id8.{Id8}
 use Rattle.ice_ids.specs.declared.Id12.{Id12}
 use Rattle.flat_tables.specs.File.{file_limit}
-use Rattle.zarr_tree.specs.Held.{Entry, entry_in}
+use Rattle.zarr_tree.specs.Held.{HeldEntry, entry_in}
 use Rattle.manifest_file.specs.declared.manifest.Place.{Place}
 use Rattle.manifest_file.specs.declared.manifest.Place.TheVariants.{Object}
 use Rattle.manifest_file.specs.declared.manifest.ManifestFile.{ManifestFile}
@@ -87,7 +87,7 @@ got-for client start journal (m ∷ ms) (y ∷ ys) z l a = elim a [
 
 -- ---- what is known of a new list
 -- an entry of the session has the object
-pub record IsInEntries (entries : List (Entry Place)) (object : Id12) : Type 0 where
+pub record IsInEntries (entries : List (HeldEntry Place)) (object : Id12) : Type 0 where
   pub node : Id8
   pub index : List ℕ
   pub offset : ℕ

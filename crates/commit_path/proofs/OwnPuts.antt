@@ -9,10 +9,10 @@ use Rattle.ice_ids.specs.declared.drawing.AnyIds.{AnyIds}
 use Rattle.ice_ids.specs.Drawing.{drawn12, after12, after8, left_of}
 use Rattle.ice_ids.specs.Sources.{any_source12}
 use Rattle.zarr_meta.specs.declared.faults.MetaFault.{MetaFault}
-use Rattle.zarr_meta.specs.declared.views.View.{View}
+use Rattle.zarr_meta.specs.declared.views.MetaView.{MetaView}
 use Rattle.zarr_tree.specs.Nodes.{Node}
 use Rattle.zarr_tree.specs.Touched.{is_untouched}
-use Rattle.zarr_tree.specs.Held.{Held, Entry, touched}
+use Rattle.zarr_tree.specs.Held.{Held, HeldEntry, touched}
 use Rattle.zarr_changes.specs.declared.chunks.ChangedArray.{ChangedArray}
 use Rattle.zarr_changes.specs.Edits.{with_entry, without_entry}
 use Rattle.zarr_changes.specs.Edits as held
@@ -196,13 +196,13 @@ puts-made by ids now start key bytes version time old new m c =
 
 -- ---- chunks that were set
 module _ (client : ℕ) (start : List Event) where
-  pub OwnsChunks-append : (entries : List (Entry Place)) (journal more : List Event) → OwnsChunks client entries start journal → OwnsChunks client entries start (journal ++ more)
+  pub OwnsChunks-append : (entries : List (HeldEntry Place)) (journal more : List Event) → OwnsChunks client entries start journal → OwnsChunks client entries start (journal ++ more)
   OwnsChunks-append entries journal more owns node i id offset size e = PutItself-append client (Chunk id) start journal more (owns node i id offset size e)
 
-  pub owns-fewer : (old new : List (Entry Place)) (journal : List Event) → AreFewer old new → OwnsChunks client old start journal → OwnsChunks client new start journal
+  pub owns-fewer : (old new : List (HeldEntry Place)) (journal : List Event) → AreFewer old new → OwnsChunks client old start journal → OwnsChunks client new start journal
   owns-fewer old new journal f owns node i id offset size e = owns node i id offset size (f node i (Some (Object id offset size)) e)
 
-  owns-entered : (es : List (Entry Place)) (id : Id8) (i : List ℕ) (entry : Option Place) (journal : List Event) → ((object : Id12) (offset size : ℕ) → entry ≡ Some (Object object offset size) → PutItself client (Chunk object) start journal) → OwnsChunks client es start journal
+  owns-entered : (es : List (HeldEntry Place)) (id : Id8) (i : List ℕ) (entry : Option Place) (journal : List Event) → ((object : Id12) (offset size : ℕ) → entry ≡ Some (Object object offset size) → PutItself client (Chunk object) start journal) → OwnsChunks client es start journal
       → OwnsChunks client (with_entry es id i entry) start journal
   owns-entered es id i entry journal new owns node j object offset size e = elim (entered es id i entry node j (Some (Object object offset size)) e) [
     | inl this ↦ new object offset size this.2
@@ -210,11 +210,11 @@ module _ (client : ℕ) (start : List Event) where
   ]
 
   pub owns-set : (h : Held Place) (i : List ℕ) (place : Place) (o : Option Node) (journal : List Event) → ((object : Id12) (offset size : ℕ) → place ≡ Object object offset size → PutItself client (Chunk object) start journal) → OwnsChunks client h.chunks start journal
-      → OwnsChunks client (held.with_chunk h i place o).chunks start journal
+      → OwnsChunks client (held.placed_chunk h i place o).chunks start journal
   owns-set h i place None journal new owns = owns
   owns-set h i place (Some n) journal new owns = owns-entered h.chunks n.id i (Some place) journal (λ object offset size e. new object offset size (cc)) owns
 
-  owns-unset : (h : Held Place) (i : List ℕ) (a o : Option Node) (journal : List Event) → OwnsChunks client h.chunks start journal → OwnsChunks client (held.without_chunk h i a o).chunks start journal
+  owns-unset : (h : Held Place) (i : List ℕ) (a o : Option Node) (journal : List Event) → OwnsChunks client h.chunks start journal → OwnsChunks client (held.unplaced_chunk h i a o).chunks start journal
   owns-unset h i a None journal owns = owns
   owns-unset h i (Some m) (Some n) journal owns = owns-fewer h.chunks (without_entry h.chunks n.id i) journal (without-fewer h.chunks n.id i) owns
   owns-unset h i None (Some n) journal owns = owns-entered h.chunks n.id i None journal (λ object offset size e. cc) owns
@@ -234,7 +234,7 @@ Owns-gets ids client s start middle journal m o = record {
 
 -- ... by edits
 module _ (ids : AnyIds) (client : ℕ) (start journal : List Event) where
-  owns-added : (fault : Result View MetaFault → Option MetaFault) (s t : SessionState) (path text : List ℕ) (id : Id8) → added fault s path text ≡ Ok (id, t) → Owns ids client s start journal → Owns ids client t start journal
+  owns-added : (fault : Result MetaView MetaFault → Option MetaFault) (s t : SessionState) (path text : List ℕ) (id : Id8) → added fault s path text ≡ Ok (id, t) → Owns ids client s start journal → Owns ids client t start journal
   owns-added fault s t path text id e o =
       subst (λ (x : SessionState). Owns ids client x start journal) (sym (node-is fault s t path text id e)) (record { chunks = o.chunks; drawn = HasPutDrawn-later ids s.ids (after8 s.ids) client start journal (later-drawn8 s.ids) o.drawn })
 
@@ -277,7 +277,7 @@ open-fresh by a journal = Leads-bind (λ r j. Unit {0}) (IsFresh a) by (resolve_
 
 owns-none : (ids : AnyIds) (client : ℕ) (s : SessionState) (now : AnyIds) (start journal : List Event) → s.held.chunks ≡ [] → s.ids ≡ now → HasPutDrawn ids now client start journal → Owns ids client s start journal
 owns-none ids client s now start journal none same c = record {
-  chunks = subst (λ (es : List (Entry Place)). OwnsChunks client es start journal) (sym none) (λ node i id offset size e. cc);
+  chunks = subst (λ (es : List (HeldEntry Place)). OwnsChunks client es start journal) (sym none) (λ node i id offset size e. cc);
   drawn = subst (λ (x : AnyIds). HasPutDrawn ids x client start journal) (sym same) c;
 }
 
@@ -374,7 +374,7 @@ module _ (by : Caller) (ids : AnyIds) (start : List Event) where
   write-new x a None journal c = walks-done New Anywhere DrawsBehind by (Ok (with_list x a None)) journal c
   write-new x a (Some array) journal c = count-new x a array journal c (nat_lt refs_limit (length array.refs))
 
-  arrays-new : (rows : List NodeRow) (es : List (Entry Place)) (arrays : List ChangedArray) (x : Written) (journal : List Event) → Draws x.ids journal → Walks New Anywhere DrawsBehind by (arrays_program rows es arrays x) journal
+  arrays-new : (rows : List NodeRow) (es : List (HeldEntry Place)) (arrays : List ChangedArray) (x : Written) (journal : List Event) → Draws x.ids journal → Walks New Anywhere DrawsBehind by (arrays_program rows es arrays x) journal
   unfolding arrays_program
   arrays-new rows es [] x journal c = walks-done New Anywhere DrawsBehind by (Ok x) journal c
   arrays-new rows es (a ∷ more) x journal c =

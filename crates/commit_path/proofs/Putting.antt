@@ -1,7 +1,7 @@
 -- What was put and is readable stays so.
 use Rattle.std.proofs.Common.{◌≡◌, List, [], ◌++◌, refl, sym, ◌∙◌, ap}
 use Rattle.std.specs.Prelude.{ℕ, Option, Some, None, option_and_then}
-use Rattle.zarr_tree.specs.Held.{Entry}
+use Rattle.zarr_tree.specs.Held.{HeldEntry}
 use Rattle.manifest_file.specs.declared.manifest.Place.{Place}
 use Rattle.manifest_file.specs.declared.manifest.Place.TheVariants.{Inline, Object}
 use Rattle.repo_objects.specs.Trees.{Puts, bytes_at, part_of, Extends}
@@ -31,5 +31,5 @@ bytes-extend p q x (Object id offset size) bytes e =
     let a = read-some (part_of offset size) (p.chunk id) bytes e in
     ap (option_and_then (part_of offset size)) (x.chunks id a.0 a.1 ∙ sym a.1) ∙ e
 
-pub chunks-extend : (p q : Puts) → Extends p q → (entries : List (Entry Place)) → HasChunks p entries → HasChunks q entries
+pub chunks-extend : (p q : Puts) → Extends p q → (entries : List (HeldEntry Place)) → HasChunks p entries → HasChunks q entries
 chunks-extend p q x entries h node i place e = let b = h node i place e in (b.0, bytes-extend p q x place b.0 b.1, b.2)

@@ -9,12 +9,12 @@ use Rattle.ice_ids.specs.Text.{same_id8}
 use Rattle.zarr_path.specs.Paths.{same_path}
 use Rattle.zarr_tree.proofs.Apply.{id-true}
 use Rattle.zarr_meta.specs.declared.views.ArrayView.{ArrayView}
-use Rattle.zarr_meta.specs.declared.views.View.{View}
-use Rattle.zarr_meta.specs.declared.views.View.TheVariants as view
+use Rattle.zarr_meta.specs.declared.views.MetaView.{MetaView}
+use Rattle.zarr_meta.specs.declared.views.MetaView.TheVariants as view
 use Rattle.zarr_meta.specs.Meta.{view_in}
 use Rattle.zarr_tree.specs.declared.edit.Frozen.{Frozen}
 use Rattle.zarr_tree.specs.Nodes.{Node, SameFrozen, array_of_view, array_in, array_change, view_change}
-use Rattle.zarr_tree.specs.Held.{Held, Entry, entry_in, nodes_over}
+use Rattle.zarr_tree.specs.Held.{Held, HeldEntry, entry_in, nodes_over}
 use Rattle.zarr_changes.specs.Sets.{chunks_of, has_chunks, changed_arrays}
 use Rattle.manifest_file.specs.declared.manifest.Place.{Place}
 use Rattle.held_manifest.specs.LookUp.{Listed, look_up, chunk_place}
@@ -84,7 +84,7 @@ module _ (puts : Puts) where
       tested false f r h = cc
 
   module _ (row : NodeRow) (n : Node) (same : row.id ≡ n.id) (array : ArrayView) (i : List ℕ) (place : Place) where
-    by_view : (m v : Option View) → view_change m v ≡ None → array_of_view v ≡ Some array → (place_in puts row i (array_of_view m) ≡ Some place → IsSome (bytes_at puts place))
+    by_view : (m v : Option MetaView) → view_change m v ≡ None → array_of_view v ≡ Some array → (place_in puts row i (array_of_view m) ≡ Some place → IsSome (bytes_at puts place))
         → chunk_place (length array.shape) n.id i (listed puts (manifests_named row.kind)) ≡ Some place → IsSome (bytes_at puts place)
     by_view m None h e f k = absurd cc
     by_view m (Some view.Group) h e f k = absurd cc
@@ -132,7 +132,7 @@ module _ (puts : Puts) where
 
     -- ---- a new list
     -- a place that the entries or the base's manifests give
-    merged-place : (es : List (Entry Place)) → HasChunks puts es → (array : ArrayView) → array_in n.text ≡ Some array → (i : List ℕ) (place : Place)
+    merged-place : (es : List (HeldEntry Place)) → HasChunks puts es → (array : ArrayView) → array_in n.text ≡ Some array → (i : List ℕ) (place : Place)
         → merged (length array.shape) n.id (listed puts (own_manifests rows p n.id)) (chunks_of es n.id) i ≡ Some place → IsSome (bytes_at puts place)
     merged-place es has array e i place k =
         by_entry (entry_in es n.id i) refl (eqb (length i) (length array.shape)) (own-chunk array e i place)

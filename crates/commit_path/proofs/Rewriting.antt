@@ -12,7 +12,7 @@ use Rattle.zarr_path.specs.Paths.{path_cmp, same_path}
 use Rattle.zarr_path.proofs.OrderLaws.{same_path-true, same_path-refl}
 use Rattle.zarr_meta.specs.declared.views.ArrayView.{ArrayView}
 use Rattle.zarr_tree.specs.Nodes.{Node, is_array, array_in}
-use Rattle.zarr_tree.specs.Held.{Held, Entry, nodes_over}
+use Rattle.zarr_tree.specs.Held.{Held, HeldEntry, nodes_over}
 use Rattle.zarr_changes.specs.Sets.{chunks_of, has_chunks, array_of_row, changed_arrays}
 use Rattle.manifest_file.specs.declared.manifest.Place.{Place}
 use Rattle.held_manifest.specs.LookUp.{Listed, chunk_place}
@@ -57,14 +57,14 @@ read-listed puts (m ∷ ms) [] z = absurd z
 read-listed puts (m ∷ ms) (l ∷ ls) z = λ j. (sym z.0.extents j, ap (or_empty m.id) z.0.put j) ∷ read-listed puts ms ls z.1 j
 
 -- ---- an array's new list
-pub record Rewritten (puts : Puts) (rows : List NodeRow) (es : List (Entry Place)) (a : ChangedArray) (m : Option NewManifest) : Type 0 where
+pub record Rewritten (puts : Puts) (rows : List NodeRow) (es : List (HeldEntry Place)) (a : ChangedArray) (m : Option NewManifest) : Type 0 where
   pub old : List Listed
   pub new : List Listed
   pub was : AreRead puts (own_manifests rows a.path a.node) old
   pub is : AreRead puts (refs_of m) new
   pub same : (i : List ℕ) → chunk_place a.rank a.node i new ≡ merged a.rank a.node old (chunks_of es a.node) i
 
-pub rewritten-extends : (p q : Puts) → Extends p q → (rows : List NodeRow) (es : List (Entry Place)) (a : ChangedArray) (m : Option NewManifest) → Rewritten p rows es a m → Rewritten q rows es a m
+pub rewritten-extends : (p q : Puts) → Extends p q → (rows : List NodeRow) (es : List (HeldEntry Place)) (a : ChangedArray) (m : Option NewManifest) → Rewritten p rows es a m → Rewritten q rows es a m
 rewritten-extends p q x rows es a m r = record {
   old = r.old;
   new = r.new;
@@ -74,11 +74,11 @@ rewritten-extends p q x rows es a m r = record {
 }
 
 -- the new list is this array's
-pub record IsListOf (puts : Puts) (rows : List NodeRow) (es : List (Entry Place)) (a : ChangedArray) (n : NewList) : Type 0 where
+pub record IsListOf (puts : Puts) (rows : List NodeRow) (es : List (HeldEntry Place)) (a : ChangedArray) (n : NewList) : Type 0 where
   pub path : n.path ≡ a.path
   pub list : Rewritten puts rows es a n.manifest
 
-abbrev pub AreListsOf : Puts → List NodeRow → List (Entry Place) → List ChangedArray → List NewList → Type 0
+abbrev pub AreListsOf : Puts → List NodeRow → List (HeldEntry Place) → List ChangedArray → List NewList → Type 0
 AreListsOf puts rows es arrays news = AllZip (IsListOf puts rows es) arrays news
 
 -- ---- rows in order
@@ -135,7 +135,7 @@ module _ {P : Type 0} (h : Held P) (nodes : FinMap path_cmp Node) where
   Rows = List (List ℕ × Node)
 
   abbrev has : List ℕ × Node → Bool
-  has row = list_any (λ (entry : Entry P). same_id8 entry.0 row.1.id) h.chunks
+  has row = list_any (λ (entry : HeldEntry P). same_id8 entry.0 row.1.id) h.chunks
 
   abbrev changed_in : Rows → List ChangedArray
   changed_in es = filter_map array_of_row (filter has es)

@@ -11,7 +11,7 @@ use Rattle.zarr_meta.specs.declared.views.ArrayView.{ArrayView}
 use Rattle.zarr_tree.proofs.ViewLaws.{in_grid_is}
 use Rattle.zarr_tree.specs.Nodes.{Node, array_in, in_grid, are_low}
 use Rattle.zarr_tree.specs.Edits.{at_node, at_array}
-use Rattle.zarr_tree.specs.Held.{Entry}
+use Rattle.zarr_tree.specs.Held.{HeldEntry}
 use Rattle.zarr_changes.specs.Edits.{with_entry, without_entry}
 use Rattle.zarr_changes.specs.Edits as held
 use Rattle.zarr_changes.specs.Sets.{set_refusal, unset_refusal, length_of}
@@ -34,10 +34,10 @@ use Rattle.commit_path.proofs.Editing.{written, taken, result_same, opened-by, s
 
 -- ---- chunks
 -- the session with other entries
-abbrev with_entries : SessionState → List (Entry Place) → SessionState
+abbrev with_entries : SessionState → List (HeldEntry Place) → SessionState
 with_entries s es = record s { held = record s.held { chunks = es } }
 
-entries-spelled : (s : SessionState) (es : List (Entry Place)) → IsSpelled s → AreSized es → IsSpelled (with_entries s es)
+entries-spelled : (s : SessionState) (es : List (HeldEntry Place)) → IsSpelled s → AreSized es → IsSpelled (with_entries s es)
 entries-spelled s es w sized = record {
   base = w.base;
   of_snapshot = record { file = w.of_snapshot.file; proper = w.of_snapshot.proper; rows = w.of_snapshot.rows; files = w.of_snapshot.files };
@@ -87,19 +87,19 @@ chunk-set s t path index bytes e = by_refusal (set_refusal (nodes_seen s) path i
     by_refusal None r k = record { allowed = r; is = by_length (nat_le (length bytes) most_inline) k }
     by_refusal (Some fault) r k = cc
 
-entered-sized : (es : List (Entry Place)) (id : Id8) (i : List ℕ) (entry : Option Place) → AreSized es → IsTrue (are_low i) → ((place : Place) → entry ≡ Some place → IsPlace place) → AreSized (with_entry es id i entry)
+entered-sized : (es : List (HeldEntry Place)) (id : Id8) (i : List ℕ) (entry : Option Place) → AreSized es → IsTrue (are_low i) → ((place : Place) → entry ≡ Some place → IsPlace place) → AreSized (with_entry es id i entry)
 entered-sized es id i entry z low place node j x e = elim (entered es id i entry node j x e) [
   | inl this ↦ (subst (λ (k : List ℕ). IsTrue (are_low k)) this.1 low, λ p k. place p (this.2 ∙ k))
   | inr old ↦ z node j x old
 ]
 
-entered-objects : (journal : List Event) (es : List (Entry Place)) (id : Id8) (i : List ℕ) (entry : Option Place) → ObjectsPut journal es → ((object : Id12) (offset size : ℕ) → entry ≡ Some (Object object offset size) → ⊥) → ObjectsPut journal (with_entry es id i entry)
+entered-objects : (journal : List Event) (es : List (HeldEntry Place)) (id : Id8) (i : List ℕ) (entry : Option Place) → ObjectsPut journal es → ((object : Id12) (offset size : ℕ) → entry ≡ Some (Object object offset size) → ⊥) → ObjectsPut journal (with_entry es id i entry)
 entered-objects journal es id i entry z never node j object offset size e = elim (entered es id i entry node j (Some (Object object offset size)) e) [
   | inl this ↦ absurd (never object offset size this.2)
   | inr old ↦ z node j object offset size old
 ]
 
-entered-chunks : (puts : Puts) (es : List (Entry Place)) (id : Id8) (i : List ℕ) (entry : Option Place) → HasChunks puts es → ((place : Place) → entry ≡ Some place → (bytes : List ℕ) × (bytes_at puts place ≡ Some bytes) × (length bytes ≡ length_of place)) → HasChunks puts (with_entry es id i entry)
+entered-chunks : (puts : Puts) (es : List (HeldEntry Place)) (id : Id8) (i : List ℕ) (entry : Option Place) → HasChunks puts es → ((place : Place) → entry ≡ Some place → (bytes : List ℕ) × (bytes_at puts place ≡ Some bytes) × (length bytes ≡ length_of place)) → HasChunks puts (with_entry es id i entry)
 entered-chunks puts es id i entry z own node j place e = elim (entered es id i entry node j (Some place) e) [
   | inl this ↦ own place this.2
   | inr old ↦ z node j place old
@@ -112,11 +112,11 @@ module _ (s : SessionState) (path index bytes : List ℕ) where
   inline-bytes : (puts : Puts) (place : Place) → ◌≡◌ {A = Option Place} (Some (Inline bytes)) (Some place) → (own : List ℕ) × (bytes_at puts place ≡ Some own) × (length own ≡ length_of place)
   inline-bytes puts place e = let same : Inline bytes ≡ place = cc in subst (λ (p : Place). (own : List ℕ) × (bytes_at puts p ≡ Some own) × (length own ≡ length_of p)) same (bytes, refl, refl)
 
-  inline-spelled : IsBytes bytes → IsTrue (are_low index) → (o : Option Node) → IsSpelled s → IsSpelled (record s { held = held.with_chunk s.held index (Inline bytes) o })
+  inline-spelled : IsBytes bytes → IsTrue (are_low index) → (o : Option Node) → IsSpelled s → IsSpelled (record s { held = held.placed_chunk s.held index (Inline bytes) o })
   inline-spelled b low None w = entries-spelled s s.held.chunks w w.chunks
   inline-spelled b low (Some n) w = entries-spelled s (with_entry s.held.chunks n.id index (Some (Inline bytes))) w (entered-sized s.held.chunks n.id index (Some (Inline bytes)) w.chunks low (inline-place b))
 
-  inline-opened : (o : Option Node) (journal : List Event) → IsOpened s journal → IsOpened (record s { held = held.with_chunk s.held index (Inline bytes) o }) journal
+  inline-opened : (o : Option Node) (journal : List Event) → IsOpened s journal → IsOpened (record s { held = held.placed_chunk s.held index (Inline bytes) o }) journal
   inline-opened None journal o = opened-by s s.held s.ids journal o o.objects o.chunks
   inline-opened (Some n) journal o =
       opened-by s (record s.held { chunks = with_entry s.held.chunks n.id index (Some (Inline bytes)) }) s.ids journal o
@@ -140,12 +140,12 @@ chunk-unset s t path index e =
     record { allowed = by_tree.0; is = sym (result_same _ t by_tree.1) }
 
 module _ (s : SessionState) (index : List ℕ) where
-  unset-spelled : IsTrue (are_low index) → (a o : Option Node) → IsSpelled s → IsSpelled (record s { held = held.without_chunk s.held index a o })
+  unset-spelled : IsTrue (are_low index) → (a o : Option Node) → IsSpelled s → IsSpelled (record s { held = held.unplaced_chunk s.held index a o })
   unset-spelled low a None w = entries-spelled s s.held.chunks w w.chunks
   unset-spelled low (Some m) (Some n) w = entries-spelled s (without_entry s.held.chunks n.id index) w (sized-fewer s.held.chunks (without_entry s.held.chunks n.id index) (without-fewer s.held.chunks n.id index) w.chunks)
   unset-spelled low None (Some n) w = entries-spelled s (with_entry s.held.chunks n.id index None) w (entered-sized s.held.chunks n.id index None w.chunks low (λ place e. cc))
 
-  unset-opened : (a o : Option Node) (journal : List Event) → IsOpened s journal → IsOpened (record s { held = held.without_chunk s.held index a o }) journal
+  unset-opened : (a o : Option Node) (journal : List Event) → IsOpened s journal → IsOpened (record s { held = held.unplaced_chunk s.held index a o }) journal
   unset-opened a None journal o = opened-by s s.held s.ids journal o o.objects o.chunks
   unset-opened (Some m) (Some n) journal o = fewer-opened s (record s.held { chunks = without_entry s.held.chunks n.id index }) s.ids journal (without-fewer s.held.chunks n.id index) o
   unset-opened None (Some n) journal o =

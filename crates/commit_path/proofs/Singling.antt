@@ -8,7 +8,7 @@ use Rattle.ice_ids.specs.Text.{IsId12}
 use Rattle.ice_ids.specs.Drawing.{drawn12, after12}
 use Rattle.ice_ids.proofs.Drawn.{drawn12-IsId12}
 use Rattle.zarr_tree.specs.Touched.{is_untouched}
-use Rattle.zarr_tree.specs.Held.{Entry, touched}
+use Rattle.zarr_tree.specs.Held.{HeldEntry, touched}
 use Rattle.zarr_changes.specs.declared.chunks.ChangedArray.{ChangedArray}
 use Rattle.zarr_changes.specs.Sets.{chunks_of, changed_arrays}
 use Rattle.manifest_file.specs.declared.manifest.Place.{Place}
@@ -213,7 +213,7 @@ module _ (by : Caller) (s : SessionState) (start : List Event) where
   write-still x a None journal c = still-done (Ok (with_list x a None)) journal c
   write-still x a (Some array) journal c = count-still x a array journal c (nat_lt refs_limit (length array.refs))
 
-  arrays-still : (rows : List NodeRow) (es : List (Entry Place)) (arrays : List ChangedArray) (x : Written) (journal : List Event) → PutAlike journal → Walks Alike Anywhere Still by (arrays_program rows es arrays x) journal
+  arrays-still : (rows : List NodeRow) (es : List (HeldEntry Place)) (arrays : List ChangedArray) (x : Written) (journal : List Event) → PutAlike journal → Walks Alike Anywhere Still by (arrays_program rows es arrays x) journal
   unfolding arrays_program
   arrays-still rows es [] x journal c = still-done (Ok x) journal c
   arrays-still rows es (a ∷ more) x journal c =

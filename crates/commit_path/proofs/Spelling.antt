@@ -17,7 +17,7 @@ use Rattle.zarr_meta.specs.Grids.{most_chunks}
 use Rattle.zarr_tree.specs.Edits.{most_nodes}
 use Rattle.zarr_tree.specs.Changes.{IsOver, IsNormal}
 use Rattle.zarr_tree.specs.Touched.{lists, lists_index, Touches}
-use Rattle.zarr_tree.specs.Held.{Entry, entry_in, indices_in_order, ids_of, indices_of, written_rows, touched, nodes_over}
+use Rattle.zarr_tree.specs.Held.{HeldEntry, entry_in, indices_in_order, ids_of, indices_of, written_rows, touched, nodes_over}
 use Rattle.zarr_tree.proofs.Apply.{id-refl, id-true, node_cases}
 use Rattle.zarr_tree.proofs.Ordered.{lists-in_order, lists_index-in_order}
 use Rattle.zarr_tree.proofs.Listing.{ordered-law, touched-law}
@@ -135,10 +135,10 @@ all-indices P [] f = tt
 all-indices P (x ∷ xs) f = (f x (ap (λ (b : Bool). b || lists_index xs x) (numbers-refl x)), all-indices P xs (λ i e. f i (or-right (same_numbers x i) (lists_index xs i) e)))
 
 -- an index that is listed has an entry
-listed-entry : (es : List (Entry Place)) (id : Id8) (i : List ℕ) → lists_index (indices_of es id) i ≡ true → (e : Option Place) × (entry_in es id i ≡ Some e)
+listed-entry : (es : List (HeldEntry Place)) (id : Id8) (i : List ℕ) → lists_index (indices_of es id) i ≡ true → (e : Option Place) × (entry_in es id i ≡ Some e)
 listed-entry [] id i e = cc
-listed-entry (x ∷ xs) id i e = elim (same_id8 x.0 id) as (λ b. lists_index (map (λ (row : Entry Place). row.1) (cond b (x ∷ filter (λ (row : Entry Place). same_id8 row.0 id) xs) (filter (λ (row : Entry Place). same_id8 row.0 id) xs))) i ≡ true → (e : Option Place) × (option_map (λ (row : Entry Place). row.2) (cond (b && same_numbers x.1 i) (Some x) (find (λ (row : Entry Place). same_id8 row.0 id && same_numbers row.1 i) xs)) ≡ Some e)) [
-  | true ↦ elim (same_numbers x.1 i) as (λ b. (b || lists_index (indices_of xs id) i) ≡ true → (e : Option Place) × (option_map (λ (row : Entry Place). row.2) (cond b (Some x) (find (λ (row : Entry Place). same_id8 row.0 id && same_numbers row.1 i) xs)) ≡ Some e)) [
+listed-entry (x ∷ xs) id i e = elim (same_id8 x.0 id) as (λ b. lists_index (map (λ (row : HeldEntry Place). row.1) (cond b (x ∷ filter (λ (row : HeldEntry Place). same_id8 row.0 id) xs) (filter (λ (row : HeldEntry Place). same_id8 row.0 id) xs))) i ≡ true → (e : Option Place) × (option_map (λ (row : HeldEntry Place). row.2) (cond (b && same_numbers x.1 i) (Some x) (find (λ (row : HeldEntry Place). same_id8 row.0 id && same_numbers row.1 i) xs)) ≡ Some e)) [
+  | true ↦ elim (same_numbers x.1 i) as (λ b. (b || lists_index (indices_of xs id) i) ≡ true → (e : Option Place) × (option_map (λ (row : HeldEntry Place). row.2) (cond b (Some x) (find (λ (row : HeldEntry Place). same_id8 row.0 id && same_numbers row.1 i) xs)) ≡ Some e)) [
     | true ↦ λ k. (x.2, refl)
     | false ↦ λ k. listed-entry xs id i k
   ]
@@ -154,7 +154,7 @@ array-is : (s : SessionState) → IsSpelled s → (id : Id8) → lists (ids_of i
 array-is s w id e = record {
   node =
       let found : AllByRecursion (λ (row : Row). get (nodes_seen s) row.0 ≡ Some row.1) (filter (λ (row : Row). is_array row.1.text) (written_rows s.held (base_nodes s))) =
-      kept _ (λ (row : Row). is_array row.1.text) (written_rows s.held (base_nodes s)) (kept _ (λ (row : Row). list_any (λ (entry : Entry Place). same_id8 entry.0 row.1.id) s.held.chunks) (entries (nodes_seen s)) (each-entry (nodes_seen s))) in
+      kept _ (λ (row : Row). is_array row.1.text) (written_rows s.held (base_nodes s)) (kept _ (λ (row : Row). list_any (λ (entry : HeldEntry Place). same_id8 entry.0 row.1.id) s.held.chunks) (entries (nodes_seen s)) (each-entry (nodes_seen s))) in
       let row = listed-row (λ (row : Row). get (nodes_seen s) row.0 ≡ Some row.1) (filter (λ (row : Row). is_array row.1.text) (written_rows s.held (base_nodes s))) found id (sym (lists-in_order (map (λ (row : Row). row.1.id) (filter (λ (row : Row). is_array row.1.text) (written_rows s.held (base_nodes s)))) id) ∙ e) in
       subst IsId8 row.2 (node-id s w row.0.0 row.0.1 row.1);
   chunks = all-indices IsIndex (indices_in_order (indices_of s.held.chunks id)) (λ i k.

@@ -169,6 +169,9 @@ own_start NoMemory m = tt
 own_start _ m = absurd m
 
 -- ---- the start
+pub never-both : {A : Type 0} {b : Bool} → b ≡ true → b ≡ false → A
+never-both t f = let no : true ≡ false = sym t ∙ f in absurd (cc)
+
 pub undrawn : (s : SessionState) → IsDrawn s s
 undrawn s = record { same = refl; later = record { way = refl; client = refl; left = omega arith } }
 

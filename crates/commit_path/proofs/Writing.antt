@@ -18,7 +18,7 @@ use Rattle.manifest_file.specs.declared.manifest.ManifestFile.{ManifestFile}
 use Rattle.manifest_file.specs.Manifests.{refs_limit}
 use Rattle.manifest_file.specs.Layout.{file_bytes}
 use Rattle.held_manifest.specs.LookUp.{Listed}
-use Rattle.manifest_index.specs.Merging.{Change, merged, IsMerged, merged_array}
+use Rattle.manifest_index.specs.Merging.{ChunkChange, merged, IsMerged, merged_array}
 use Rattle.snapshot_file.specs.declared.nodes.ManifestRef.{ManifestRef}
 use Rattle.repo_objects.specs.declared.bad_objects.Bad.{Bad}
 use Rattle.repo_objects.specs.Readings.{read_manifest, manifest_by}
@@ -140,7 +140,7 @@ module _ (L : Spellings) (by : Caller) (ids : AnyIds) (mine : Sessions) (s : Ses
     abbrev Own : List ManifestRef
     Own = own_manifests s.rows a.path a.node
 
-    abbrev change : List Change
+    abbrev change : List ChunkChange
     change = chunks_of s.held.chunks a.node
 
     abbrev Done_with : Written → List Event → Type 0

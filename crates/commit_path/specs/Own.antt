@@ -1,5 +1,7 @@
--- What a client puts itself: under which ids, and that its commits hold nothing else but what their bases hold. (Own.)
-use Rattle.std.specs.Prelude.{◌≡◌, ◌≢◌, ℕ, ◌<◌, List, ◌++◌, Option, Some, None, Result, Ok, Err, IfOk}
+-- What a client puts itself: under which ids, and that its commits hold nothing else
+-- but what their bases hold. (Own.)
+use Rattle.std.specs.Prelude.{◌≡◌, ◌≢◌, ℕ, ◌<◌, List, ◌++◌}
+use Rattle.std.specs.Prelude.{Option, Some, None, Result, Ok, Err, IfOk}
 use Rattle.std.specs.Option.{option_and_then}
 use Rattle.std.specs.Str.{IsUtf8}
 use Rattle.ice_ids.specs.declared.Id8.{Id8}
@@ -7,17 +9,19 @@ use Rattle.ice_ids.specs.declared.Id12.{Id12}
 use Rattle.ice_ids.specs.declared.drawing.AnyIds.{AnyIds}
 use Rattle.ice_ids.specs.Drawing.{drawn12, left_of}
 use Rattle.zarr_meta.specs.declared.faults.MetaFault.{MetaFault}
-use Rattle.zarr_meta.specs.declared.views.View.{View}
-use Rattle.zarr_tree.specs.Held.{Entry, entry_in}
+use Rattle.zarr_meta.specs.declared.views.MetaView.{MetaView}
+use Rattle.zarr_tree.specs.Held.{HeldEntry, entry_in}
 use Rattle.manifest_file.specs.declared.manifest.Place.{Place}
 use Rattle.manifest_file.specs.declared.manifest.Place.TheVariants.{Object}
 use Rattle.snapshot_file.specs.declared.snapshot.SnapshotFile.{SnapshotFile}
 use Rattle.repo_objects.specs.Readings.{ref_of}
 use Rattle.object_store.specs.declared.keys.Key.{Key}
-use Rattle.object_store.specs.declared.keys.Key.TheVariants.{Snapshot, Manifest, Txn, Chunk, Branch, Tag, Tombstone, Lease}
+use Rattle.object_store.specs.declared.keys.Key.TheVariants.{Snapshot, Manifest, Txn, Chunk}
+use Rattle.object_store.specs.declared.keys.Key.TheVariants.{Branch, Tag, Tombstone, Lease}
 use Rattle.object_store.specs.declared.keys.Why.{Why}
 use Rattle.object_store.specs.declared.events.Op.{Op}
-use Rattle.object_store.specs.declared.events.Op.TheVariants.{Get, PutNew, PutOver, Remove, RemoveAt, List as ListPart}
+use Rattle.object_store.specs.declared.events.Op.TheVariants.{Get, PutNew, PutOver, Remove}
+use Rattle.object_store.specs.declared.events.Op.TheVariants.{RemoveAt, List as ListPart}
 use Rattle.object_store.specs.declared.events.Event.{Event}
 use Rattle.store_api.specs.declared.machines.Refusal.{Refusal}
 use Rattle.store_api.specs.Journal.{Each, WasPut, snap_made, IsOnce}
@@ -38,16 +42,20 @@ use Rattle.commit_path.specs.Spelled.{IsSpelled}
 
 -- ---- own puts
 -- the client itself put the objects of the chunks that were set
-abbrev pub OwnsChunks : ℕ → List (Entry Place) → List Event → List Event → Type 0
-OwnsChunks client entries start journal = (node : Id8) (i : List ℕ) (id : Id12) (offset size : ℕ) → entry_in entries node i ≡ Some (Some (Object id offset size)) → PutItself client (Chunk id) start journal
+abbrev pub OwnsChunks : ℕ → List (HeldEntry Place) → List Event → List Event → Type 0
+OwnsChunks client entries start journal =
+    (node : Id8) (i : List ℕ) (id : Id12) (offset size : ℕ)
+    → entry_in entries node i ≡ Some (Some (Object id offset size))
+    → PutItself client (Chunk id) start journal
 
 -- ---- commits of one's own
 -- the parent that a snapshot first named
 abbrev pub parent_made : List Event → Id12 → Option Id12
 parent_made journal id = option_and_then (λ (s : SnapshotFile). s.parent) (snap_made journal id)
 
--- These bytes are a reference to a snapshot that the client put itself. Where nothing is put again, the snapshot was made over this base, and
--- whatever it holds, the base holds, or the client put it itself.
+-- These bytes are a reference to a snapshot that the client put itself. Where nothing is
+-- put again, the snapshot was made over this base, and whatever it holds, the base
+-- holds, or the client put it itself.
 pub record IsOwnCommit (client : ℕ) (bytes : List ℕ) (start journal : List Event) : Type 0 where
   pub id : Id12
   pub names : ref_of bytes ≡ Some id
@@ -60,7 +68,9 @@ pub record IsOwnCommit (client : ℕ) (bytes : List ℕ) (start journal : List E
 -- ---- ids of own puts
 -- from where it stands, the source draws no object id twice
 abbrev pub DrawsOnceOf : AnyIds → Type 0
-DrawsOnceOf ids = (a b : AnyIds) (id : Id12) → IsLater ids a → IsLater ids b → drawn12 a ≡ Some id → drawn12 b ≡ Some id → left_of a ≡ left_of b
+DrawsOnceOf ids =
+    (a b : AnyIds) (id : Id12) → IsLater ids a → IsLater ids b → drawn12 a ≡ Some id
+    → drawn12 b ≡ Some id → left_of a ≡ left_of b
 
 -- the id under which a key has an object
 abbrev pub id_of : Key → Option Id12
@@ -81,9 +91,12 @@ pub record WasDrawn (ids now : AnyIds) (id : Id12) : Type 0 where
   pub spent : left_of now < left_of at
   pub drawn : drawn12 at ≡ Some id
 
--- the event isn't the client's, or each object that it puts new, done or not, is under an id that was drawn
+-- the event isn't the client's, or each object that it puts new, done or
+-- not, is under an id that was drawn
 abbrev pub PutsDrawn : (ids now : AnyIds) → ℕ → List Event → Event → Type 0
-PutsDrawn ids now client before event = event.client ≡ client → (key : Key) (bytes : List ℕ) (why : Why) (id : Id12) → event.op ≡ PutNew key bytes why → id_of key ≡ Some id → WasDrawn ids now id
+PutsDrawn ids now client before event =
+    event.client ≡ client → (key : Key) (bytes : List ℕ) (why : Why) (id : Id12)
+    → event.op ≡ PutNew key bytes why → id_of key ≡ Some id → WasDrawn ids now id
 
 -- From `start` on, the client put objects under ids alone that were drawn.
 pub record HasPutDrawn (ids now : AnyIds) (client : ℕ) (start journal : List Event) : Type 0 where
@@ -93,7 +106,8 @@ pub record HasPutDrawn (ids now : AnyIds) (client : ℕ) (start journal : List E
 
 -- the event isn't the client's, or puts nothing new at the key
 abbrev pub PutsElsewhere : Key → ℕ → List Event → Event → Type 0
-PutsElsewhere key client before event = event.client ≡ client → (bytes : List ℕ) (why : Why) → event.op ≢ PutNew key bytes why
+PutsElsewhere key client before event =
+    event.client ≡ client → (bytes : List ℕ) (why : Why) → event.op ≢ PutNew key bytes why
 
 -- From `start` on, the client put nothing new at the key.
 pub record HasNotPut (key : Key) (client : ℕ) (start journal : List Event) : Type 0 where
@@ -102,39 +116,73 @@ pub record HasNotPut (key : Key) (client : ℕ) (start journal : List Event) : T
   pub each : Each (PutsElsewhere key client) start more
 
 -- ---- what is owed of own puts
--- A client that commits sessions puts an object where it put none since `start`, if its source draws no id twice; and puts a branch over with
--- a commit of its own.
+-- A client that commits sessions puts an object where it put none since `start`, if its source
+-- draws no id twice; and puts a branch over with a commit of its own.
 abbrev pub OwesOwn : AnyIds → ℕ → List Event → Op → List Event → Type 0
 OwesOwn ids client start (Get key) journal = Unit {0}
 OwesOwn ids client start (ListPart part) journal = Unit {0}
-OwesOwn ids client start (PutNew key bytes why) journal = DrawsOnceOf ids → HasNotPut key client start journal
-OwesOwn ids client start (PutOver key bytes old why) journal = IsOwnCommit client bytes start journal
+OwesOwn ids client start (PutNew key bytes why) journal =
+    DrawsOnceOf ids → HasNotPut key client start journal
+OwesOwn ids client start (PutOver key bytes old why) journal =
+    IsOwnCommit client bytes start journal
 OwesOwn ids client start (Remove key why) journal = Unit {0}
 OwesOwn ids client start (RemoveAt key old why) journal = Unit {0}
 
--- What a client's session knows of the client's own puts since `start`: the client put the objects of its chunks itself, and it put
--- objects under ids alone that its source drew before the session's own.
-pub record Owns (ids : AnyIds) (client : ℕ) (s : SessionState) (start journal : List Event) : Type 0 where
+-- What a client's session knows of the client's own puts since `start`: the client put
+-- the objects of its chunks itself, and it put objects under ids alone that its source
+-- drew before the session's own.
+pub record Owns (ids : AnyIds) (client : ℕ) (s : SessionState)
+    (start journal : List Event) : Type 0 where
   pub chunks : OwnsChunks client s.held.chunks start journal
   pub drawn : HasPutDrawn ids s.ids client start journal
 
 -- a commit that was lost leaves the session so, with the ids that are to be drawn next
-abbrev pub OwnsNext : AnyIds → ℕ → SessionState → List Event → Result Tried Refusal → List Event → Type 0
-OwnsNext ids client s start (Ok (Lost old found next)) journal = Owns ids client (record s { ids = next }) start journal
+abbrev pub OwnsNext : AnyIds → ℕ → SessionState → List Event
+    → Result Tried Refusal → List Event → Type 0
+OwnsNext ids client s start (Ok (Lost old found next)) journal =
+    Owns ids client (record s { ids = next }) start journal
 OwnsNext ids client s start (Ok (Was_done made)) journal = Unit {0}
 OwnsNext ids client s start (Err why) journal = Unit {0}
 
--- Whatever others do, a client that put no object owns what it opens; what it owns it owns when nodes are added, changed or dropped, when
--- chunks are set in the session or unset, and when properties are added; and each operation of a commit is owed so, which leaves what is owned.
+-- Whatever others do, a client that put no object owns what it opens; what it owns it owns when
+-- nodes are added, changed or dropped, when chunks are set in the session or unset, and when
+-- properties are added; and each operation of a commit is owed so, which leaves what is owned.
 pub record OwningLaw : Type 0 where
-  pub opens : (by : Caller) (ids : AnyIds) (a : Asked) (start journal : List Event) → HasPutDrawn ids a.ids by.number start journal
-      → Keeps (λ h client op. OwesOwn ids client start op h) by (open_program a) journal × Leads (λ answer h. IfOk answer (λ s. Owns ids by.number s start h)) by (open_program a) journal
-  pub adds : (ids : AnyIds) (client : ℕ) (fault : Result View MetaFault → Option MetaFault) (s t : SessionState) (path text : List ℕ) (id : Id8) (start journal : List Event) → added fault s path text ≡ Ok (id, t) → Owns ids client s start journal → Owns ids client t start journal
-  pub texts : (ids : AnyIds) (client : ℕ) (s t : SessionState) (path text : List ℕ) (start journal : List Event) → meta_set s path text ≡ Ok t → Owns ids client s start journal → Owns ids client t start journal
-  pub drops : (ids : AnyIds) (client : ℕ) (s t : SessionState) (path : List ℕ) (start journal : List Event) → node_dropped s path ≡ Ok t → Owns ids client s start journal → Owns ids client t start journal
-  pub sets : (ids : AnyIds) (client : ℕ) (s t : SessionState) (path index bytes : List ℕ) (start journal : List Event) → set_program s path index bytes ≡ Done (Ok t) → Owns ids client s start journal → Owns ids client t start journal
-  pub unsets : (ids : AnyIds) (client : ℕ) (s t : SessionState) (path index : List ℕ) (start journal : List Event) → chunk_unset s path index ≡ Ok t → Owns ids client s start journal → Owns ids client t start journal
-  pub props : (ids : AnyIds) (client : ℕ) (s t : SessionState) (name value : List ℕ) (start journal : List Event) → prop_added s name value ≡ Ok t → Owns ids client s start journal → Owns ids client t start journal
-  pub kept : (by : Caller) (ids : AnyIds) (s : SessionState) (start journal more : List Event) → Each (IsOther by) journal more → Owns ids by.number s start journal → Owns ids by.number s start (journal ++ more)
-  pub commits : (by : Caller) (ids : AnyIds) (s : SessionState) (message : List ℕ) (start journal : List Event) → IsLater ids s.ids → IsUtf8 message → IsSpelled s → IsOpened s journal → ChangedNothing by.number start journal → Owns ids by.number s start journal
-      → Keeps (λ h client op. OwesOwn ids client start op h) by (commit_program s message) journal × Leads (OwnsNext ids by.number s start) by (commit_program s message) journal
+  pub opens : (by : Caller) (ids : AnyIds) (a : Asked) (start journal : List Event)
+      → HasPutDrawn ids a.ids by.number start journal
+      → Keeps (λ h client op. OwesOwn ids client start op h) by (open_program a) journal
+      × Leads (λ answer h. IfOk answer (λ s. Owns ids by.number s start h))
+      by (open_program a) journal
+  pub adds : (ids : AnyIds) (client : ℕ) (fault : Result MetaView MetaFault → Option MetaFault)
+      (s t : SessionState) (path text : List ℕ) (id : Id8) (start journal : List Event)
+      → added fault s path text ≡ Ok (id, t) → Owns ids client s start journal
+      → Owns ids client t start journal
+  pub texts : (ids : AnyIds) (client : ℕ) (s t : SessionState)
+      (path text : List ℕ) (start journal : List Event)
+      → meta_set s path text ≡ Ok t → Owns ids client s start journal
+      → Owns ids client t start journal
+  pub drops : (ids : AnyIds) (client : ℕ) (s t : SessionState)
+      (path : List ℕ) (start journal : List Event)
+      → node_dropped s path ≡ Ok t → Owns ids client s start journal
+      → Owns ids client t start journal
+  pub sets : (ids : AnyIds) (client : ℕ) (s t : SessionState)
+      (path index bytes : List ℕ) (start journal : List Event)
+      → set_program s path index bytes ≡ Done (Ok t) → Owns ids client s start journal
+      → Owns ids client t start journal
+  pub unsets : (ids : AnyIds) (client : ℕ) (s t : SessionState)
+      (path index : List ℕ) (start journal : List Event)
+      → chunk_unset s path index ≡ Ok t → Owns ids client s start journal
+      → Owns ids client t start journal
+  pub props : (ids : AnyIds) (client : ℕ) (s t : SessionState)
+      (name value : List ℕ) (start journal : List Event)
+      → prop_added s name value ≡ Ok t → Owns ids client s start journal
+      → Owns ids client t start journal
+  pub kept : (by : Caller) (ids : AnyIds) (s : SessionState) (start journal more : List Event)
+      → Each (IsOther by) journal more → Owns ids by.number s start journal
+      → Owns ids by.number s start (journal ++ more)
+  pub commits : (by : Caller) (ids : AnyIds) (s : SessionState)
+      (message : List ℕ) (start journal : List Event)
+      → IsLater ids s.ids → IsUtf8 message → IsSpelled s → IsOpened s journal
+      → ChangedNothing by.number start journal → Owns ids by.number s start journal
+      → Keeps (λ h client op. OwesOwn ids client start op h) by (commit_program s message) journal
+      × Leads (OwnsNext ids by.number s start) by (commit_program s message) journal

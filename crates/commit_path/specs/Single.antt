@@ -6,10 +6,12 @@ use Rattle.snapshot_file.specs.declared.snapshot.SnapshotFile.{SnapshotFile}
 use Rattle.repo_objects.specs.Readings.{snapshot_by}
 use Rattle.repo_objects.specs.Trees.{nodes_in}
 use Rattle.object_store.specs.declared.keys.Key.{Key}
-use Rattle.object_store.specs.declared.keys.Key.TheVariants.{Snapshot, Manifest, Txn, Chunk, Branch, Tag, Tombstone, Lease}
+use Rattle.object_store.specs.declared.keys.Key.TheVariants.{Snapshot, Manifest, Txn, Chunk}
+use Rattle.object_store.specs.declared.keys.Key.TheVariants.{Branch, Tag, Tombstone, Lease}
 use Rattle.object_store.specs.declared.keys.Why.{Why}
 use Rattle.object_store.specs.declared.events.Op.{Op}
-use Rattle.object_store.specs.declared.events.Op.TheVariants.{Get, PutNew, PutOver, Remove, RemoveAt, List as ListPart}
+use Rattle.object_store.specs.declared.events.Op.TheVariants.{Get, PutNew, PutOver, Remove}
+use Rattle.object_store.specs.declared.events.Op.TheVariants.{RemoveAt, List as ListPart}
 use Rattle.object_store.specs.declared.events.Event.{Event}
 use Rattle.store_api.specs.Journal.{Each}
 use Rattle.store_api.specs.Callers.{Caller}
@@ -52,7 +54,8 @@ pub record HasPutNone (client : ℕ) (start journal : List Event) : Type 0 where
   pub each : Each (PutsNone client) start more
 
 -- ---- snapshots of one session
--- The bytes are those of a snapshot under this id, with the nodes of a session that added and dropped the same nodes as this one.
+-- The bytes are those of a snapshot under this id, with the nodes of a session that added and
+-- dropped the same nodes as this one.
 pub record IsAlike (s : SessionState) (id : Id12) (bytes : List ℕ) : Type 0 where
   pub session : SessionState
   pub added : session.held.added ≡ s.held.added
@@ -63,17 +66,25 @@ pub record IsAlike (s : SessionState) (id : Id12) (bytes : List ℕ) : Type 0 wh
 
 -- the event isn't the client's, or a snapshot that it puts is of such a session
 abbrev pub PutsAlike : ℕ → SessionState → List Event → Event → Type 0
-PutsAlike client s before event = event.client ≡ client → (id : Id12) (bytes : List ℕ) (why : Why) → event.op ≡ PutNew (Snapshot id) bytes why → IsAlike s id bytes
+PutsAlike client s before event =
+    event.client ≡ client → (id : Id12) (bytes : List ℕ) (why : Why)
+    → event.op ≡ PutNew (Snapshot id) bytes why → IsAlike s id bytes
 
--- From `start` on, the client put snapshots of sessions alone that added and dropped the same nodes as this one.
+-- From `start` on, the client put snapshots of sessions alone that added and
+-- dropped the same nodes as this one.
 pub record HasPutAlike (client : ℕ) (s : SessionState) (start journal : List Event) : Type 0 where
   pub more : List Event
   pub is : journal ≡ start ++ more
   pub each : Each (PutsAlike client s) start more
 
--- Whatever others do, an opening puts no snapshot; and where the client put snapshots like that of a session alone, a commit of it puts no others.
+-- Whatever others do, an opening puts no snapshot; and where the client put snapshots like that of
+-- a session alone, a commit of it puts no others.
 pub record SingleLaw : Type 0 where
-  pub opening : (by : Caller) (a : Asked) (start journal : List Event) → HasPutNone by.number start journal
-      → Keeps (λ h client op. ¬ PutsSnapshot op) by (open_program a) journal × Leads (λ answer h. HasPutNone by.number start h) by (open_program a) journal
-  pub commit : (by : Caller) (s : SessionState) (message : List ℕ) (start journal : List Event) → IsUtf8 message → IsSpelled s → IsOpened s journal → HasPutAlike by.number s start journal
-      → Keeps (λ h client op. HasPutAlike client s start h) by (commit_program s message) journal × Leads (λ answer h. HasPutAlike by.number s start h) by (commit_program s message) journal
+  pub opening : (by : Caller) (a : Asked) (start journal : List Event)
+      → HasPutNone by.number start journal
+      → Keeps (λ h client op. ¬ PutsSnapshot op) by (open_program a) journal
+      × Leads (λ answer h. HasPutNone by.number start h) by (open_program a) journal
+  pub commit : (by : Caller) (s : SessionState) (message : List ℕ) (start journal : List Event)
+      → IsUtf8 message → IsSpelled s → IsOpened s journal → HasPutAlike by.number s start journal
+      → Keeps (λ h client op. HasPutAlike client s start h) by (commit_program s message) journal
+      × Leads (λ answer h. HasPutAlike by.number s start h) by (commit_program s message) journal

@@ -8,7 +8,7 @@ use Rattle.zarr_tree.specs.Nodes.{Node, SameFrozen, are_low}
 use Rattle.zarr_tree.specs.Edits.{most_nodes}
 use Rattle.zarr_tree.specs.Changes.{is_gone}
 use Rattle.zarr_tree.specs.Touched.{lists}
-use Rattle.zarr_tree.specs.Held.{Entry, meta_in, entry_in}
+use Rattle.zarr_tree.specs.Held.{HeldEntry, meta_in, entry_in}
 use Rattle.manifest_file.specs.declared.manifest.Place.{Place}
 use Rattle.manifest_file.specs.Layout.{IsPlace}
 use Rattle.snapshot_file.specs.declared.snapshot.SnapshotFile.{SnapshotFile}
@@ -33,18 +33,23 @@ pub record IsOtherText (nodes : FinMap path_cmp Node) (id : Id8) (text : List �
   pub frozen : SameFrozen node.text text
 
 -- the numbers of the chunks that were set, and of their places, have their widths
-abbrev pub AreSized : List (Entry Place) → Type 0
-AreSized entries = (node : Id8) (i : List ℕ) (entry : Option Place) → entry_in entries node i ≡ Some entry → IsTrue (are_low i) × ((place : Place) → entry ≡ Some place → IsPlace place)
+abbrev pub AreSized : List (HeldEntry Place) → Type 0
+AreSized entries =
+    (node : Id8) (i : List ℕ) (entry : Option Place) → entry_in entries node i ≡ Some entry
+    → IsTrue (are_low i) × ((place : Place) → entry ≡ Some place → IsPlace place)
 
--- A session's base can be written, and so can its changes and its properties. Their other texts are of the base's nodes; they add at paths where the base has
--- no node that isn't gone; and they leave no more nodes than a tree may have.
+-- A session's base can be written, and so can its changes and its properties. Their other texts are
+-- of the base's nodes; they add at paths where the base has no node that isn't gone; and they leave
+-- no more nodes than a tree may have.
 pub record IsSpelled (s : SessionState) : Type 0 where
   pub base : IsId12 s.base
   pub of_snapshot : IsOfSnapshot s
   pub added : AddsFine s.held
   pub texts : SetsFine s.held
-  pub frozen : (id : Id8) (text : List ℕ) → meta_in s.held.metas id ≡ Some text → IsOtherText (base_nodes s) id text
-  pub free : (p : List ℕ) (m n : Node) → get s.held.added p ≡ Some m → get (base_nodes s) p ≡ Some n → is_gone (lists s.held.dropped) (base_nodes s) p ≡ true
+  pub frozen : (id : Id8) (text : List ℕ) → meta_in s.held.metas id ≡ Some text
+      → IsOtherText (base_nodes s) id text
+  pub free : (p : List ℕ) (m n : Node) → get s.held.added p ≡ Some m → get (base_nodes s) p ≡ Some n
+      → is_gone (lists s.held.dropped) (base_nodes s) p ≡ true
   pub chunks : AreSized s.held.chunks
   pub props : AreProps s.props
   pub few : len (nodes_seen s) ≤ most_nodes

@@ -1,6 +1,6 @@
 //! The machine that commits a session.
 
-ghost use Rattle.std.specs.Prelude.{◌≡◌, ◌<◌, ◌≤◌, ◌+◌, ◌*◌, ◌^◌, [], length, Some, None, All, IfOk, IfErr, IsTrue};
+ghost use Rattle.std.specs.Prelude.{◌≡◌, ◌<◌, ◌≤◌, ◌+◌, ◌*◌, ◌^◌, [], length, true, false, Some, None, Err, All, IfOk, IfErr, IsTrue};
 ghost use Rattle.flat_tables.specs.Rows.{Ascends};
 ghost use Rattle.manifest_file.specs.Manifests.{ref_key};
 ghost use Rattle.manifest_index.specs.Extents.{are_low};
@@ -11,9 +11,11 @@ ghost use Rattle.snapshot_file.specs.Layout.{snapshot_bytes};
 ghost use Rattle.txn_file.specs.Layout.{log_file};
 ghost use Rattle.changed_snapshot.specs.declared.new_snapshot.NewList.{NewList as TheList};
 ghost use Rattle.commit_path.specs.Committing.{log_for, snap_for, old_rest, new_behind, arrays_behind, written_in, after_arrays, after_log, after_snapshot, after_branch, commit_rest, commit_left, manifests_left, session_in, message_in, IsDrawn, DrewOwn, DrewFor, IsLeft, CommitStarts, MayRefuseStart, MayRefuseCommit};
-ghost use Rattle.session.specs.Sessions.{branch_of};
+ghost use Rattle.session.specs.Sessions.{base_nodes, branch_of, writes};
+ghost use Rattle.zarr_tree.specs.Held.{touched};
+ghost use Rattle.zarr_tree.specs.Touched.{is_untouched};
 ghost use Rattle.commit_path.specs.inside.Lists.{IsRank};
-ghost use Rattle.commit_path.specs.inside.Working.{IsUnwritten, WritesFile, PassesUnless, got_behind, merged_behind, MayRefuseOwn, LandsCalmly, LandsSurely, Reaches, Turns};
+ghost use Rattle.commit_path.specs.inside.Working.{IsUnwritten, WritesFile, PassesUnless, got_behind, merged_behind, MayRefuseOwn, LandsCalmly, LandsSurely, ComesToNext, Turns};
 
 use crate::arrays::Arrays;
 use crate::committing::{Committing, Got};
@@ -206,7 +208,7 @@ impl Commit {
     /// The log comes next, under an id that is drawn.
     fn begin_log(&mut self) -> Result<(), Refusal>
         requires { self.old.state ≡ Committing.Ended }
-        ensures reaches { Reaches (after_arrays self.old.session self.old.message
+        ensures reaches { ComesToNext (after_arrays self.old.session self.old.message
             (written_in self.old)) (commit_rest self.new) result }
         ensures falls { commit_left self.new ≤ length self.old.arrays.left * 2 ^ 65 + 3 }
         ensures kept { IsDrawn (session_in self.old) (session_in self.new) }
@@ -230,7 +232,7 @@ impl Commit {
         requires order { Ascends ref_key None array.refs }
         requires ranks { All (λ r. length r.index ≡ rank) array.refs }
         requires low { All (λ r. IsTrue (are_low r.index)) array.refs }
-        ensures reaches { Reaches (merged_behind self.old.session self.old.message
+        ensures reaches { ComesToNext (merged_behind self.old.session self.old.message
             (written_in self.old) self.old.arrays.left (Some array)) (commit_rest self.new) result }
         ensures falls { commit_left self.new ≤ length self.old.arrays.left * 2 ^ 65 + 4 }
         ensures kept { IsDrawn (session_in self.old) (session_in self.new) }
@@ -315,7 +317,7 @@ impl Commit {
     /// Goes on with the arrays that are left, up to the next operation.
     fn go_on(&mut self) -> Result<(), Refusal>
         requires { self.old.state ≡ Committing.Ended }
-        ensures reaches { Reaches (arrays_behind self.old.session self.old.message
+        ensures reaches { ComesToNext (arrays_behind self.old.session self.old.message
             (written_in self.old) self.old.arrays.left []) (commit_rest self.new) result }
         ensures falls { commit_left self.new ≤ length self.old.arrays.left * 2 ^ 65 + 2 ^ 64 + 4 }
         ensures kept { IsDrawn (session_in self.old) (session_in self.new) }
@@ -476,7 +478,8 @@ impl Commit {
 
     /// Begins a commit: arrays without old manifests are merged, and the bytes of its first operation are made, under an id
     /// that the session draws. It is refused by `ReadOnly`, `NothingToCommit`, `IdsSpent` or `TooLarge`, as the program of
-    /// the commit is, or by `NoMemory`, and then the session comes back as it was, apart from ids that were drawn.
+    /// the commit is, or by `NoMemory`, and then the session comes back as it was, apart from ids that were drawn. The first
+    /// two take no memory, so they are told wherever they hold.
     #[tactic(auto, using(crate::proofs::Walking::own_start))]
     pub fn start(
         alloc: Global,
@@ -484,6 +487,10 @@ impl Commit {
         message: Text,
     ) -> Result<Commit, (Session, Refusal)>
         ensures starts { CommitStarts session message result }
+        ensures read_only { writes session ≡ false → result ≡ Err (session, Refusal.ReadOnly) }
+        ensures unchanged { writes session ≡ true → is_untouched
+            (touched session.held (base_nodes session)) ≡ true
+            → result ≡ Err (session, Refusal.NothingToCommit) }
         ensures message { IfOk result (λ c. message_in c ≡ message) }
         ensures bounded { IfOk result (λ c. commit_left c ≤ 2 ^ 200) }
         ensures listed { IfErr result (λ refused. MayRefuseStart refused.1) }

@@ -60,7 +60,7 @@ pub fn merged(
     if !all_low(&change) {
         return Err(AllocError);
     }
-    merge(alloc, array.rank, array.node, got, &change)
+    merge(alloc, array.rank, array.node, got, change)
 }
 
 /// The manifest of an array's chunks.

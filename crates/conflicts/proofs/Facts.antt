@@ -20,7 +20,7 @@ use Rattle.zarr_tree.specs.declared.lists.Touched.{Touched}
 use Rattle.zarr_tree.specs.Nodes.{Node, same_numbers}
 use Rattle.zarr_tree.specs.Trees.{Tree}
 use Rattle.zarr_tree.specs.Touched.{lists_index, lists_chunk, lists_new}
-use Rattle.zarr_tree.specs.Held.{Held, Entry, Rows, entry_in, changes_of}
+use Rattle.zarr_tree.specs.Held.{Held, HeldEntry, Rows, entry_in, changes_of}
 use Rattle.zarr_tree.specs.Conflicts.{HasEntry, HasChunkListed, HasNewBeneath}
 use Rattle.zarr_tree.proofs.Apply.{both, first, second}
 use Rattle.zarr_changes.specs.Sets.{has_chunks}
@@ -166,31 +166,31 @@ news-sorted s m =
 
 -- ---- entries
 module _ {P : Type 0} where
-  pub entry-found : (rows : List (Entry P)) (id : Id8) (i : List ℕ) → is_some (entry_in rows id i) ≡ true → has_chunks rows id ≡ true
+  pub entry-found : (rows : List (HeldEntry P)) (id : Id8) (i : List ℕ) → is_some (entry_in rows id i) ≡ true → has_chunks rows id ≡ true
   entry-found [] id i h = cc
   entry-found (r ∷ rs) id i h = by_id (entry-found rs id i) (same_id8 r.0 id) (same_numbers r.1 i) h
     where
       by_id : (is_some (entry_in rs id i) ≡ true → has_chunks rs id ≡ true) → (a b : Bool)
-          → is_some (option_map (λ (row : Entry P). row.2) (cond (a && b) (Some r) (find (λ (row : Entry P). same_id8 row.0 id && same_numbers row.1 i) rs))) ≡ true → (a || has_chunks rs id) ≡ true
+          → is_some (option_map (λ (row : HeldEntry P). row.2) (cond (a && b) (Some r) (find (λ (row : HeldEntry P). same_id8 row.0 id && same_numbers row.1 i) rs))) ≡ true → (a || has_chunks rs id) ≡ true
       by_id f true b h = refl
       by_id f false b h = f h
 
-  abbrev FoundEntry : List (Entry P) → Id8 → Type 0
+  abbrev FoundEntry : List (HeldEntry P) → Id8 → Type 0
   FoundEntry rows id = (i : List ℕ) × (is_some (entry_in rows id i) ≡ true)
 
-  found-entry : (rows : List (Entry P)) (id : Id8) → has_chunks rows id ≡ true → FoundEntry rows id
+  found-entry : (rows : List (HeldEntry P)) (id : Id8) → has_chunks rows id ≡ true → FoundEntry rows id
   found-entry [] id h = cc
   found-entry (e ∷ es) id h = by_id (found-entry es id) (same_id8 e.0 id) refl h
     where
-      rest : List ℕ → Option (Entry P)
-      rest i = find (λ (row : Entry P). same_id8 row.0 id && same_numbers row.1 i) es
+      rest : List ℕ → Option (HeldEntry P)
+      rest i = find (λ (row : HeldEntry P). same_id8 row.0 id && same_numbers row.1 i) es
 
-      at_last : (i : List ℕ) → is_some (entry_in es id i) ≡ true → (b : Bool) → is_some (option_map (λ (row : Entry P). row.2) (cond b (Some e) (rest i))) ≡ true
+      at_last : (i : List ℕ) → is_some (entry_in es id i) ≡ true → (b : Bool) → is_some (option_map (λ (row : HeldEntry P). row.2) (cond b (Some e) (rest i))) ≡ true
       at_last i x true = refl
       at_last i x false = x
 
       by_id : (has_chunks es id ≡ true → FoundEntry es id) → (a : Bool) → same_id8 e.0 id ≡ a → (a || has_chunks es id) ≡ true → FoundEntry (e ∷ es) id
-      by_id f true is h = (e.1, ap (λ b. is_some (option_map (λ (row : Entry P). row.2) (cond b (Some e) (rest e.1)))) (both _ _ is (same_path-refl e.1)))
+      by_id f true is h = (e.1, ap (λ b. is_some (option_map (λ (row : HeldEntry P). row.2) (cond b (Some e) (rest e.1)))) (both _ _ is (same_path-refl e.1)))
       by_id f false is h = let x = f h in (x.0, at_last x.0 x.1 (same_id8 e.0 id && same_numbers e.1 x.0))
 
 module _ (bytes_at : Place → Option (List ℕ)) (h : Held Place) where

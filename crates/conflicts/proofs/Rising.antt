@@ -22,7 +22,7 @@ use Rattle.zarr_tree.specs.Held.{Rows, entry_in}
 use Rattle.zarr_tree.proofs.Apply.{id-true, first, second}
 use Rattle.zarr_changes.proofs.IdLaws.{id_total}
 use Rattle.zarr_tree.specs.Cases.{number}
-use Rattle.conflicts.specs.Order.{Precedes, Ascend}
+use Rattle.conflicts.specs.Order.{ConflictPrecedes, Ascend}
 use Rattle.held_log.specs.LookUp.{chunks_listed}
 use Rattle.conflicts.specs.Found.{Sides, is_taken, if_so, of_added, holds, twice, of_case, node_cases, of_row, rows_before, rows_from, found_in, found}
 use Rattle.conflicts.specs.Laws.{AscendLaw}
@@ -30,7 +30,7 @@ use Rattle.conflicts.proofs.Members.{In, contains-in, InTurn, in-append, in-flat
 use Rattle.conflicts.proofs.Facts.{tested, less, Before, Rise, rows-turn, keys-turn}
 use Rattle.conflicts.proofs.Exactness.{made, so-in, IsOf, case-of}
 
-pub ascending : (xs : List Conflict) → InTurn Precedes xs → Ascend xs
+pub ascending : (xs : List Conflict) → InTurn ConflictPrecedes xs → Ascend xs
 ascending [] h = tt
 ascending (x ∷ xs) h = (λ y k. h.0 y (contains-in xs y k), ascending xs h.1)
 
@@ -109,19 +109,19 @@ cases-turn = turn-cases node_cases refl
 late : (k : Case) → In node_cases k → 2 < number k
 late k h = number-lt _ _ (tested (λ l. nat_lt 2 (number l)) node_cases refl k h)
 
-so-turn : (b : Bool) (k : Case) (p : List ℕ) → InTurn Precedes (if_so b k p)
+so-turn : (b : Bool) (k : Case) (p : List ℕ) → InTurn ConflictPrecedes (if_so b k p)
 so-turn true k p = (λ y h. absurd h, tt)
 so-turn false k p = tt
 
 module _ (s : Sides) (ordered : IsOrdered s.theirs) where
-  twice-turn : (p : List ℕ) (n : Node) → InTurn Precedes (of_case s p n case.ChunkDoubleUpdate)
-  twice-turn p n = turn-map (λ i j. index_cmp i j ≡ Less) Precedes (λ i. made case.ChunkDoubleUpdate p (Some i)) (twice s n) (by_array (is_array n.text)) (λ i j lt. inr (refl, inr (refl, lt)))
+  twice-turn : (p : List ℕ) (n : Node) → InTurn ConflictPrecedes (of_case s p n case.ChunkDoubleUpdate)
+  twice-turn p n = turn-map (λ i j. index_cmp i j ≡ Less) ConflictPrecedes (λ i. made case.ChunkDoubleUpdate p (Some i)) (twice s n) (by_array (is_array n.text)) (λ i j lt. inr (refl, inr (refl, lt)))
     where
       by_array : (b : Bool) → InTurn (λ i j. index_cmp i j ≡ Less) (cond b (filter (λ i. is_some (entry_in s.held.chunks n.id i)) (chunks_listed s.theirs.updated_chunks n.id)) [])
       by_array true = turn-filter (λ i j. index_cmp i j ≡ Less) (λ i. is_some (entry_in s.held.chunks n.id i)) (chunks_listed s.theirs.updated_chunks n.id) (chunks-turn s.theirs.updated_chunks n.id ordered.arrays ordered.chunks)
       by_array false = tt
 
-  case-turn : (p : List ℕ) (n : Node) (k : Case) → InTurn Precedes (of_case s p n k)
+  case-turn : (p : List ℕ) (n : Node) (k : Case) → InTurn ConflictPrecedes (of_case s p n k)
   case-turn p n case.NewNodeConflictsWithExistingNode = so-turn (holds case.NewNodeConflictsWithExistingNode s p n) case.NewNodeConflictsWithExistingNode p
   case-turn p n case.NewNodeInInvalidGroup = so-turn (holds case.NewNodeInInvalidGroup s p n) case.NewNodeInInvalidGroup p
   case-turn p n case.ZarrMetadataDoubleUpdate = so-turn (holds case.ZarrMetadataDoubleUpdate s p n) case.ZarrMetadataDoubleUpdate p
@@ -134,8 +134,8 @@ module _ (s : Sides) (ordered : IsOrdered s.theirs) where
   case-turn p n case.DeleteOfUpdatedGroup = so-turn (holds case.DeleteOfUpdatedGroup s p n) case.DeleteOfUpdatedGroup p
 
   -- ---- a row
-  row-turn : (e : List ℕ × Node) → InTurn Precedes (of_row s e)
-  row-turn e = turn-flat Later Precedes (λ k. of_case s e.0 e.1 k) node_cases cases-turn (λ k m. case-turn e.0 e.1 k)
+  row-turn : (e : List ℕ × Node) → InTurn ConflictPrecedes (of_row s e)
+  row-turn e = turn-flat Later ConflictPrecedes (λ k. of_case s e.0 e.1 k) node_cases cases-turn (λ k m. case-turn e.0 e.1 k)
       (λ k l lt x y h g.
       let a : IsOf e.0 k x = case-of s e.0 e.1 k x h in
       let b : IsOf e.0 l y = case-of s e.0 e.1 l y g in
@@ -156,12 +156,12 @@ module _ (s : Sides) (ordered : IsOrdered s.theirs) where
     | inr b ↦ let r = so-in _ _ p y b in (ap (λ (z : Conflict). z.path) (sym r.1), subst (λ (z : Conflict). number z.case < 3) r.1 (omega arith))
   ]
 
-  added-turn : (p : List ℕ) → InTurn Precedes (of_added s p)
-  added-turn p = turn-append Precedes (if_so (is_taken s p) case.NewNodeConflictsWithExistingNode p) _ (so-turn _ _ p) (so-turn _ _ p)
+  added-turn : (p : List ℕ) → InTurn ConflictPrecedes (of_added s p)
+  added-turn p = turn-append ConflictPrecedes (if_so (is_taken s p) case.NewNodeConflictsWithExistingNode p) _ (so-turn _ _ p) (so-turn _ _ p)
       (λ x y h g.
       let a = so-in _ _ p x h in
       let b = so-in _ _ p y g in
-      subst (λ (z : Conflict). Precedes z y) a.1 (subst (λ (z : Conflict). Precedes (made case.NewNodeConflictsWithExistingNode p None) z) b.1 (inr (refl, inl (omega arith)))))
+      subst (λ (z : Conflict). ConflictPrecedes z y) a.1 (subst (λ (z : Conflict). ConflictPrecedes (made case.NewNodeConflictsWithExistingNode p None) z) b.1 (inr (refl, inl (omega arith)))))
 
   -- ---- all
   before-in : (p : List ℕ) (rows : Rows) (e : List ℕ × Node) → In (rows_before p rows) e → In rows e × (path_cmp e.0 p ≡ Less)
@@ -233,19 +233,19 @@ module _ (s : Sides) (ordered : IsOrdered s.theirs) where
   ]
 
   -- what stands at a path before another
-  by_paths : (x y : Conflict) (p q : List ℕ) → x.path ≡ p → y.path ≡ q → path_cmp p q ≡ Less → Precedes x y
+  by_paths : (x y : Conflict) (p q : List ℕ) → x.path ≡ p → y.path ≡ q → path_cmp p q ≡ Less → ConflictPrecedes x y
   by_paths x y p q a b lt = inl ((λ i. path_cmp (a i) (b i)) ∙ lt)
 
-  all-turn : (ps : List (List ℕ)) (rows : Rows) → InTurn Rise ps → InTurn Before rows → InTurn Precedes (found_in s ps rows)
+  all-turn : (ps : List (List ℕ)) (rows : Rows) → InTurn Rise ps → InTurn Before rows → InTurn ConflictPrecedes (found_in s ps rows)
   unfolding Origin
-  all-turn [] rows t r = turn-flat Before Precedes (of_row s) rows r (λ e m. row-turn e) (λ d e lt x y h g. by_paths x y d.0 e.0 (row-at d x h).0 (row-at e y g).0 lt)
+  all-turn [] rows t r = turn-flat Before ConflictPrecedes (of_row s) rows r (λ e m. row-turn e) (λ d e lt x y h g. by_paths x y d.0 e.0 (row-at d x h).0 (row-at e y g).0 lt)
   all-turn (p ∷ ps) rows t r =
-      turn-append Precedes (flat_map (of_row s) (rows_before p rows)) _
-      (turn-flat Before Precedes (of_row s) (rows_before p rows) (before-turn p rows r) (λ e m. row-turn e) (λ d e lt x y h g. by_paths x y d.0 e.0 (row-at d x h).0 (row-at e y g).0 lt))
-      (turn-append Precedes (of_added s p) _ (added-turn p) (all-turn ps (rows_from p rows) t.1 (from-turn p rows r)) added-first)
+      turn-append ConflictPrecedes (flat_map (of_row s) (rows_before p rows)) _
+      (turn-flat Before ConflictPrecedes (of_row s) (rows_before p rows) (before-turn p rows r) (λ e m. row-turn e) (λ d e lt x y h g. by_paths x y d.0 e.0 (row-at d x h).0 (row-at e y g).0 lt))
+      (turn-append ConflictPrecedes (of_added s p) _ (added-turn p) (all-turn ps (rows_from p rows) t.1 (from-turn p rows r)) added-first)
       rows-first
     where
-      added-first : (x y : Conflict) → In (of_added s p) x → In (found_in s ps (rows_from p rows)) y → Precedes x y
+      added-first : (x y : Conflict) → In (of_added s p) x → In (found_in s ps (rows_from p rows)) y → ConflictPrecedes x y
       added-first x y h g = elim (origin ps (rows_from p rows) y g) [
         | inl a ↦ by_paths x y p a.0 (added-at p x h).0 a.2 (t.0 a.0 a.1)
         | inr a ↦ elim (from-follows p rows a.0 r a.1) [
@@ -258,7 +258,7 @@ module _ (s : Sides) (ordered : IsOrdered s.theirs) where
       behind d q m (inl e) = ap (path_cmp d.0) e ∙ (before-in p rows d m).1
       behind d q m (inr e) = total.trans d.0 p q (before-in p rows d m).1 e
 
-      rows-first : (x y : Conflict) → In (flat_map (of_row s) (rows_before p rows)) x → In (of_added s p ++ found_in s ps (rows_from p rows)) y → Precedes x y
+      rows-first : (x y : Conflict) → In (flat_map (of_row s) (rows_before p rows)) x → In (of_added s p ++ found_in s ps (rows_from p rows)) y → ConflictPrecedes x y
       rows-first x y h g =
           let d = in-flat (of_row s) (rows_before p rows) x h in
           let at = (row-at d.0 x d.2).0 in

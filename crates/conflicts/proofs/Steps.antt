@@ -13,7 +13,7 @@ use Rattle.zarr_tree.specs.declared.cases.Case.TheVariants as case
 use Rattle.zarr_tree.specs.declared.cases.Conflict.{Conflict}
 use Rattle.zarr_tree.specs.Nodes.{Node, is_array}
 use Rattle.zarr_tree.specs.Touched.{lists}
-use Rattle.zarr_tree.specs.Held.{Entry, Rows, meta_in, entry_in}
+use Rattle.zarr_tree.specs.Held.{HeldEntry, Rows, meta_in, entry_in}
 use Rattle.zarr_changes.specs.Edits.{with_id}
 use Rattle.zarr_changes.specs.Sets.{has_chunks}
 use Rattle.zarr_changes.proofs.DropLaws.{lists-with}
@@ -46,7 +46,7 @@ meta-keys (m ∷ ms) id = elim (same_id8 m.0 id) as (λ b. (b || lists (map (λ 
   | false ↦ meta-keys ms id
 ]
 
-pub chunk-keys : {P : Type 0} (rows : List (Entry P)) (id : Id8) → list_any (λ (key : Id8 × List ℕ). same_id8 key.0 id) (map (λ (row : Entry P). (row.0, row.1)) rows) ≡ has_chunks rows id
+pub chunk-keys : {P : Type 0} (rows : List (HeldEntry P)) (id : Id8) → list_any (λ (key : Id8 × List ℕ). same_id8 key.0 id) (map (λ (row : HeldEntry P). (row.0, row.1)) rows) ≡ has_chunks rows id
 chunk-keys [] id = refl
 chunk-keys (r ∷ rs) id = ap (λ b. same_id8 r.0 id || b) (chunk-keys rs id)
 

@@ -1,6 +1,7 @@
--- What a policy solves, and what it gives up. (The policies are those of Icechunk's basic conflict solver; that they solve these
--- cases is own.)
-use Rattle.std.specs.Prelude.{◌≡◌, ◌≢◌, ℕ, Bool, true, false, not, List, [], ◌∷◌, Option, Some, None}
+-- What a policy solves, and what it gives up. (The policies are those of Icechunk's basic conflict
+-- solver; that they solve these cases is own.)
+use Rattle.std.specs.Prelude.{◌≡◌, ◌≢◌, ℕ, Bool, true, false, not}
+use Rattle.std.specs.Prelude.{List, [], ◌∷◌, Option, Some, None}
 use Rattle.std.specs.List.{filter, flat_map}
 use Rattle.std.specs.FinMap.{FinMap, get}
 use Rattle.ice_ids.specs.declared.Id8.{Id8}

@@ -11,8 +11,9 @@ use Rattle.zarr_tree.specs.Changes.{Changes, is_gone}
 abbrev pub TakeTheSame : Tree → (c d : Changes) → Type 0
 TakeTheSame t c d = (p : List ℕ) → is_gone c.dropped t.nodes p ≡ is_gone d.dropped t.nodes p
 
--- They add the same nodes, have the same other texts by ids of nodes, and the same entries of chunks by ids of arrays and indices, and take away the
--- same nodes. Which ids they drop beneath a node that is gone, or that no node of the tree has, makes no difference.
+-- They add the same nodes, have the same other texts by ids of nodes, and the same entries of
+-- chunks by ids of arrays and indices, and take away the same nodes. Which ids they drop beneath a
+-- node that is gone, or that no node of the tree has, makes no difference.
 pub record AreSame (t : Tree) (c d : Changes) : Type 0 where
   pub added : c.added ≡ d.added
   pub metas : (id : Id8) → c.metas id ≡ d.metas id

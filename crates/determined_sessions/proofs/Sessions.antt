@@ -15,7 +15,7 @@ use Rattle.script_calls.specs.declared.calls.Access.{Access}
 use Rattle.script_calls.specs.declared.calls.Head.TheVariants.{Session}
 use Rattle.play_script.specs.declared.scripts.Line.{Line}
 use Rattle.play_outcome.specs.declared.outcome.Shown.{Shown}
-use Rattle.play_tasks.specs.Lines.{Deed, Goes, Sets, Reads, Puts, Gathers, Leases, Commits, deed}
+use Rattle.play_tasks.specs.Lines.{LineDeed, Goes, Sets, Reads, Puts, Gathers, Leases, Commits, deed}
 use Rattle.play_tasks.specs.Playing.{asked_by}
 use Rattle.play_tasks.specs.Solving.{DidPlay, PlaysAll}
 use Rattle.determined_sessions.specs.Sessions.{box_put, boxes_put, LinesLaw, SessionsLaw}
@@ -58,7 +58,7 @@ put-one : (client other : ℕ) (s : SessionState) (path from to : List ℕ) (num
 put-one client other s path from to numbers t u start journal begun whole p q h =
     sets-one client other q.chunks s path t u start journal begun whole (subst (λ (chunks : List (List ℕ × List ℕ)). AreSet client s path chunks t start journal) h p.set) q.set
 
-did-one : (client other : ℕ) (d : Deed) (s t u : SessionState) (start journal begun whole : List Event) (shown told : List Shown) → (p : DidPlay client d s start shown t journal) (q : DidPlay other d s begun told u whole)
+did-one : (client other : ℕ) (d : LineDeed) (s t u : SessionState) (start journal begun whole : List Event) (shown told : List Shown) → (p : DidPlay client d s start shown t journal) (q : DidPlay other d s begun told u whole)
     → box_put client d s start shown t journal p ≡ box_put other d s begun told u whole q → t ≡ u
 did-one client other (Goes went) s t u start journal begun whole shown told p q h = ap (λ (x : List Shown × SessionState). x.1) (went-same went (shown, t) (told, u) p q)
 did-one client other (Sets path index bytes) s t u start journal begun whole shown told p q h = set-one client other s path index bytes t u start journal begun whole p.1 q.1
@@ -96,11 +96,11 @@ came-one client other [] [] x y left rest o s t start journal begun whole shown 
 came-one client other [] (k ∷ ys) x y left rest o s t start journal begun whole shown told message text e p q h f g =
     let head : x ≡ k = cons-head x k left (ys ++ y ∷ rest) e in
     let is : deed k.number k.call o ≡ Commits message = ap (λ (l : Line). deed l.number l.call o) (sym head) ∙ ap (deed x.number x.call) (sym p.1) ∙ f in
-    absurd (subst (λ (d : Deed). DidPlay other d o begun q.0 q.2 whole) is q.4)
+    absurd (subst (λ (d : LineDeed). DidPlay other d o begun q.0 q.2 whole) is q.4)
 came-one client other (k ∷ xs) [] x y left rest o s t start journal begun whole shown told message text e p q h f g =
     let head : k ≡ y = cons-head k y (xs ++ x ∷ left) rest e in
     let is : deed k.number k.call o ≡ Commits text = ap (λ (l : Line). deed l.number l.call o) head ∙ ap (deed y.number y.call) (sym q.1) ∙ g in
-    absurd (subst (λ (d : Deed). DidPlay client d o start p.0 p.2 journal) is p.4)
+    absurd (subst (λ (d : LineDeed). DidPlay client d o start p.0 p.2 journal) is p.4)
 came-one client other (k ∷ xs) (l ∷ ys) x y left rest o s t start journal begun whole shown told message text e p q h f g =
     let head : k ≡ l = cons-head k l (xs ++ x ∷ left) (ys ++ y ∷ rest) e in
     let tail : xs ++ x ∷ left ≡ ys ++ y ∷ rest = cons-tail k l (xs ++ x ∷ left) (ys ++ y ∷ rest) e in

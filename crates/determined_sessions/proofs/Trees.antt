@@ -30,7 +30,7 @@ use Rattle.script_calls.specs.declared.calls.EditCall.TheVariants as E
 use Rattle.script_calls.specs.declared.calls.Call.{Call}
 use Rattle.script_calls.specs.declared.calls.Call.TheVariants as C
 use Rattle.play_outcome.specs.declared.outcome.Shown.{Shown}
-use Rattle.run_promise.specs.Lines.{text_put, key_put, edit_of, Edits, PutsBox, Changed, Does, Plays}
+use Rattle.run_promise.specs.Lines.{text_put, key_put, edit_of, Edits, PutsBox, Changed, Does, DoesAll}
 use Rattle.run_promise.specs.Ways.{Carried, stays, over}
 use Rattle.determined_sessions.specs.Trees.{id_added, edit_ids, id_given, ids_given, but_leases, PlaysLaw, links_of, CarriedLaw}
 
@@ -151,12 +151,12 @@ does-same line C.Lease t shown told u v p q xs ys h = (ap (map but_leases) p.2 �
 
 -- ---- lines
 pub plays-law : PlaysLaw
-unfolding Plays ids_given
+unfolding DoesAll ids_given
 plays-law [] t shown told u v p q h = (shown-same shown told (p.0 ∙ sym q.0), p.1 ∙ sym q.1)
 plays-law (l ∷ ls) t shown told u v p q h =
     let one = does-same l.number l.call t p.0 q.0 p.2 q.2 p.4 q.4 (ids_given ls p.2 p.1 u p.5) (ids_given ls q.2 q.1 v q.5) h in
     let more =
-    subst (λ (m : Tree). (r : Plays ls m q.1 v) → ids_given ls p.2 p.1 u p.5 ≡ ids_given ls m q.1 v r → AreShown p.1 q.1 × (u ≡ v)) one.1
+    subst (λ (m : Tree). (r : DoesAll ls m q.1 v) → ids_given ls p.2 p.1 u p.5 ≡ ids_given ls m q.1 v r → AreShown p.1 q.1 × (u ≡ v)) one.1
     (λ r k. plays-law ls p.2 p.1 q.1 u v p.5 r k) q.5 one.2
     in
     let first = shown-same shown (p.0 ++ p.1) p.3 ∙ map-append but_leases p.0 p.1 in

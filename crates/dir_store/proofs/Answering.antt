@@ -2,13 +2,13 @@
 use Rattle.std.proofs.Common.{◌≡◌, ◌≢◌, ◌∙◌, ℕ, List, refl, ap, sym, subst, inl, inr, if◌then◌else◌, eq-eqb, ne_eqb}
 use Rattle.std.proofs.lemmas.Option.{same_Some}
 use Rattle.std.specs.Prelude.{Option, Some, None, option_map, Result, Ok, Err}
-use Rattle.folder.specs.Files.{Stored as StoredFile}
+use Rattle.folder.specs.Files.{StoredFile}
 use Rattle.folder.specs.declared.faults.FileFault.{FileFault}
 use Rattle.folder.specs.declared.faults.FileFault.TheVariants as F
-use Rattle.whole_files.specs.Whole.{version_at, aside_in, OnlyAt}
-use Rattle.whole_files.specs.Changes.{Makes, Replaces, IsNew, IsOver}
-use Rattle.whole_files.specs.declared.changing.Change.{Change}
-use Rattle.whole_files.specs.declared.changing.Change.TheVariants as C
+use Rattle.whole_files.specs.Whole.{its_version, aside_in, OnlyAt}
+use Rattle.whole_files.specs.Changes.{MakesFile, Replaces, IsNew, IsOver}
+use Rattle.whole_files.specs.declared.changing.VersionChange.{VersionChange}
+use Rattle.whole_files.specs.declared.changing.VersionChange.TheVariants as C
 use Rattle.object_store.specs.declared.keys.Key.{Key}
 use Rattle.object_store.specs.declared.events.Version.{Version}
 use Rattle.object_store.specs.declared.keys.Why.{Why}
@@ -32,7 +32,7 @@ as-object : (key : Key) (f : StoredFile) (bytes : List ℕ) → f.bytes ≡ byte
 as-object key f bytes same = ap (λ (b : List ℕ). Some (record { bytes = b; version = version_for key b; created = f.changed })) same
 
 -- ---- a put of a new key
-pub new-honest : (key : Key) (now : ℕ) (bytes : List ℕ) (old new : Option StoredFile) (found : Option ℕ) → Makes (putting_of key) bytes old new (Ok found) → told_new found (version_for key bytes) now ≡ new_of (version_for key bytes) now (object key old)
+pub new-honest : (key : Key) (now : ℕ) (bytes : List ℕ) (old new : Option StoredFile) (found : Option ℕ) → MakesFile (putting_of key) bytes old new (Ok found) → told_new found (version_for key bytes) now ≡ new_of (version_for key bytes) now (object key old)
 new-honest key now bytes None new None makes = refl
 new-honest key now bytes (Some f) new None makes = let bad : Some f ≡ None = makes.0 in cc
 new-honest key now bytes None new (Some w) makes = let bad : None ≡ Some w = makes.0 in cc
@@ -44,15 +44,15 @@ new-done key bytes why (Some f) new is = let bad : Some f ≡ None = is.0 in cc
 new-done key bytes why None None is = absurd is.1
 new-done key bytes why None (Some f) is = (f.changed, as-object key f bytes is.1)
 
-stays-done : (key : Key) (bytes : List ℕ) (why : Why) (old new : Option StoredFile) (w : ℕ) → version_at (putting_of key) old ≡ Some w → new ≡ old → IsDone (PutNew key bytes why) (object key old) (object key new)
+stays-done : (key : Key) (bytes : List ℕ) (why : Why) (old new : Option StoredFile) (w : ℕ) → its_version (putting_of key) old ≡ Some w → new ≡ old → IsDone (PutNew key bytes why) (object key old) (object key new)
 stays-done key bytes why None new w some same = let bad : None ≡ Some w = some in cc
 stays-done key bytes why (Some f) new w some same = (0, ap (object key) same)
 
-pub new-did : (key : Key) (bytes : List ℕ) (why : Why) (old new : Option StoredFile) (found : Option ℕ) → Makes (putting_of key) bytes old new (Ok found) → IsDone (PutNew key bytes why) (object key old) (object key new)
+pub new-did : (key : Key) (bytes : List ℕ) (why : Why) (old new : Option StoredFile) (found : Option ℕ) → MakesFile (putting_of key) bytes old new (Ok found) → IsDone (PutNew key bytes why) (object key old) (object key new)
 new-did key bytes why old new None makes = new-done key bytes why old new makes
 new-did key bytes why old new (Some w) makes = stays-done key bytes why old new w makes.0 makes.1
 
-pub new-failed : (A : Type 0) (key : Key) (bytes : List ℕ) (why : Why) (old new : Option StoredFile) (fault : FileFault) (told : StoreFault) → Makes (putting_of key) bytes old new (Err fault) → ◌≡◌ {A = Result (Option ℕ) StoreFault} (Err told) (as_told {A = Option ℕ} (Err fault)) → Did {A = A} (PutNew key bytes why) (object key old) (object key new) (Err told)
+pub new-failed : (A : Type 0) (key : Key) (bytes : List ℕ) (why : Why) (old new : Option StoredFile) (fault : FileFault) (told : StoreFault) → MakesFile (putting_of key) bytes old new (Err fault) → ◌≡◌ {A = Result (Option ℕ) StoreFault} (Err told) (as_told {A = Option ℕ} (Err fault)) → Did {A = A} (PutNew key bytes why) (object key old) (object key new) (Err told)
 new-failed A key bytes why old new (F.Failed t) Failed (inl same) is = inl (ap (object key) same)
 new-failed A key bytes why old new (F.Failed t) Failed (inr done) is = inr (new-done key bytes why old new done)
 new-failed A key bytes why old new (F.Failed t) NoMemory makes is = cc
@@ -60,16 +60,16 @@ new-failed A key bytes why old new F.NoMemory NoMemory same is = ap (object key)
 new-failed A key bytes why old new F.NoMemory Failed same is = cc
 
 -- ---- a put over a version
-pub over-honest : (key : Key) (now : ℕ) (bytes : List ℕ) (version : ℕ) (old new : Option StoredFile) (change : Change) → Replaces (putting_of key) bytes version old new (Ok change) → told_over change (version_for key bytes) now ≡ over_of (version_for key bytes) now version (object key old)
+pub over-honest : (key : Key) (now : ℕ) (bytes : List ℕ) (version : ℕ) (old new : Option StoredFile) (change : VersionChange) → Replaces (putting_of key) bytes version old new (Ok change) → told_over change (version_for key bytes) now ≡ over_of (version_for key bytes) now version (object key old)
 over-honest key now bytes version None new C.Made is = let bad : None ≡ Some version = is.0 in cc
 over-honest key now bytes version (Some f) new C.Made is =
     let same : version_for key f.bytes ≡ version = same_Some (version_for key f.bytes) version is.0 in
-    sym (ap (λ b. if b then told_over C.Made (version_for key bytes) now else told_over (C.Moved (Some (version_for key f.bytes))) (version_for key bytes) now) (eq-eqb (version_for key f.bytes) version same))
-over-honest key now bytes version None new (C.Moved found) is = ap (λ (o : Option ℕ). told_over (C.Moved o) (version_for key bytes) now) is.0
-over-honest key now bytes version (Some f) new (C.Moved found) is =
+    sym (ap (λ b. if b then told_over C.Made (version_for key bytes) now else told_over (C.Other (Some (version_for key f.bytes))) (version_for key bytes) now) (eq-eqb (version_for key f.bytes) version same))
+over-honest key now bytes version None new (C.Other found) is = ap (λ (o : Option ℕ). told_over (C.Other o) (version_for key bytes) now) is.0
+over-honest key now bytes version (Some f) new (C.Other found) is =
     let other : version_for key f.bytes ≢ version = λ same. is.1 (is.0 ∙ ap (λ (v : ℕ). Some v) same) in
-    ap (λ (o : Option ℕ). told_over (C.Moved o) (version_for key bytes) now) is.0
-    ∙ sym (ap (λ b. if b then told_over C.Made (version_for key bytes) now else told_over (C.Moved (Some (version_for key f.bytes))) (version_for key bytes) now) (ne_eqb (version_for key f.bytes) version other))
+    ap (λ (o : Option ℕ). told_over (C.Other o) (version_for key bytes) now) is.0
+    ∙ sym (ap (λ b. if b then told_over C.Made (version_for key bytes) now else told_over (C.Other (Some (version_for key f.bytes))) (version_for key bytes) now) (ne_eqb (version_for key f.bytes) version other))
 
 pub over-done : (key : Key) (bytes : List ℕ) (version : Version) (why : Why) (old new : Option StoredFile) → IsOver (putting_of key) bytes version.0 old new → IsDone (PutOver key bytes version why) (object key old) (object key new)
 over-done key bytes version why None new is = let bad : None ≡ Some version.0 = is.0 in cc
@@ -81,7 +81,7 @@ over-done key bytes version why (Some f) (Some g) is =
           ∙ sym (ap (λ b. (if b then put_at (version_for key bytes) g.changed bytes (record fresh_slot { stands = object key (Some f) }) else record fresh_slot { stands = object key (Some f) }).stands) (eq-eqb (version_for key f.bytes) version.0 same)),
     )
 
-over-stays : (key : Key) (bytes : List ℕ) (version : Version) (why : Why) (old new : Option StoredFile) → version_at (putting_of key) old ≢ Some version.0 → new ≡ old → IsDone (PutOver key bytes version why) (object key old) (object key new)
+over-stays : (key : Key) (bytes : List ℕ) (version : Version) (why : Why) (old new : Option StoredFile) → its_version (putting_of key) old ≢ Some version.0 → new ≡ old → IsDone (PutOver key bytes version why) (object key old) (object key new)
 over-stays key bytes version why None new other same = (0, ap (object key) same)
 over-stays key bytes version why (Some f) new other same =
     let apart : version_for key f.bytes ≢ version.0 = λ e. other (ap (λ (v : ℕ). Some v) e) in (
@@ -90,11 +90,11 @@ over-stays key bytes version why (Some f) new other same =
           ∙ sym (ap (λ b. (if b then put_at (version_for key bytes) 0 bytes (record fresh_slot { stands = object key (Some f) }) else record fresh_slot { stands = object key (Some f) }).stands) (ne_eqb (version_for key f.bytes) version.0 apart)),
     )
 
-pub over-did : (key : Key) (bytes : List ℕ) (version : Version) (why : Why) (old new : Option StoredFile) (change : Change) → Replaces (putting_of key) bytes version.0 old new (Ok change) → IsDone (PutOver key bytes version why) (object key old) (object key new)
+pub over-did : (key : Key) (bytes : List ℕ) (version : Version) (why : Why) (old new : Option StoredFile) (change : VersionChange) → Replaces (putting_of key) bytes version.0 old new (Ok change) → IsDone (PutOver key bytes version why) (object key old) (object key new)
 over-did key bytes version why old new C.Made is = over-done key bytes version why old new is
-over-did key bytes version why old new (C.Moved found) is = over-stays key bytes version why old new (λ same. is.1 (is.0 ∙ same)) is.2
+over-did key bytes version why old new (C.Other found) is = over-stays key bytes version why old new (λ same. is.1 (is.0 ∙ same)) is.2
 
-pub over-failed : (A : Type 0) (key : Key) (bytes : List ℕ) (version : Version) (why : Why) (old new : Option StoredFile) (fault : FileFault) (told : StoreFault) → Replaces (putting_of key) bytes version.0 old new (Err fault) → ◌≡◌ {A = Result (Change) StoreFault} (Err told) (as_told {A = Change} (Err fault)) → Did {A = A} (PutOver key bytes version why) (object key old) (object key new) (Err told)
+pub over-failed : (A : Type 0) (key : Key) (bytes : List ℕ) (version : Version) (why : Why) (old new : Option StoredFile) (fault : FileFault) (told : StoreFault) → Replaces (putting_of key) bytes version.0 old new (Err fault) → ◌≡◌ {A = Result (VersionChange) StoreFault} (Err told) (as_told {A = VersionChange} (Err fault)) → Did {A = A} (PutOver key bytes version why) (object key old) (object key new) (Err told)
 over-failed A key bytes version why old new (F.Failed t) Failed (inl same) is = inl (ap (object key) same)
 over-failed A key bytes version why old new (F.Failed t) Failed (inr done) is = inr (over-done key bytes version why old new done)
 over-failed A key bytes version why old new (F.Failed t) NoMemory makes is = cc
@@ -120,16 +120,16 @@ new-time : (found : Option ℕ) (version now : ℕ) → time_of_new (told_new fo
 new-time None version now = refl
 new-time (Some w) version now = refl
 
-over-time : (change : Change) (version now : ℕ) → time_of_over (told_over change version now) ≡ now
+over-time : (change : VersionChange) (version now : ℕ) → time_of_over (told_over change version now) ≡ now
 over-time C.Made version now = refl
-over-time (C.Moved found) version now = refl
+over-time (C.Other found) version now = refl
 
 module _ (root asides path : List ℕ) (key : Key) (bytes : List ℕ) (why : Why) (old new : List ℕ → Option StoredFile) (there : asides ≡ aside_folder_in root) (is : path ≡ path_in root key) (only : OnlyAt asides path old new) where
-  pub answers-new : (told : Result (Option ℕ) StoreFault) (found : Option ℕ) (now : ℕ) (result : New) → Through (Makes (putting_of key) bytes (old path) (new path)) told → told ≡ Ok found → result ≡ told_new found (version_for key bytes) now
+  pub answers-new : (told : Result (Option ℕ) StoreFault) (found : Option ℕ) (now : ℕ) (result : New) → Through (MakesFile (putting_of key) bytes (old path) (new path)) told → told ≡ Ok found → result ≡ told_new found (version_for key bytes) now
       → Answers (λ n. Is_new n) time_of_new root key (PutNew key bytes why) (Ok result) old new
   answers-new told found now result through ok answer =
-      let makes : Makes (putting_of key) bytes (old path) (new path) (Ok found) = through-ok (λ r. Makes (putting_of key) bytes (old path) (new path) r) told found through.came through.so through.is ok in
-      let here : Makes (putting_of key) bytes (old (path_in root key)) (new (path_in root key)) (Ok found) = subst (λ (p : List ℕ). Makes (putting_of key) bytes (old p) (new p) (Ok found)) is makes in
+      let makes : MakesFile (putting_of key) bytes (old path) (new path) (Ok found) = through-ok (λ r. MakesFile (putting_of key) bytes (old path) (new path) r) told found through.came through.so through.is ok in
+      let here : MakesFile (putting_of key) bytes (old (path_in root key)) (new (path_in root key)) (Ok found) = subst (λ (p : List ℕ). MakesFile (putting_of key) bytes (old p) (new p) (Ok found)) is makes in
       subst (λ (n : New). Answers (λ n. Is_new n) time_of_new root key (PutNew key bytes why) (Ok n) old new) (sym answer) (record {
         honest = ap Is_new (new-honest key now bytes (old (path_in root key)) (new (path_in root key)) found here
             ∙ ap (λ (t : ℕ). new_of (version_for key bytes) t (object key (old (path_in root key)))) (sym (new-time found (version_for key bytes) now)));
@@ -137,18 +137,18 @@ module _ (root asides path : List ℕ) (key : Key) (bytes : List ℕ) (why : Why
         others = only-at root asides path key old new there is only;
       })
 
-  pub answers-new-not : (told : Result (Option ℕ) StoreFault) (fault : StoreFault) (result : Result New StoreFault) → Through (Makes (putting_of key) bytes (old path) (new path)) told → told ≡ Err fault → result ≡ Err fault
+  pub answers-new-not : (told : Result (Option ℕ) StoreFault) (fault : StoreFault) (result : Result New StoreFault) → Through (MakesFile (putting_of key) bytes (old path) (new path)) told → told ≡ Err fault → result ≡ Err fault
       → Answers (λ n. Is_new n) time_of_new root key (PutNew key bytes why) result old new
   answers-new-not told fault result through err answer =
-      let made = through-err (λ r. Makes (putting_of key) bytes (old path) (new path) r) told fault through.came through.so through.is err in
-      let here : Makes (putting_of key) bytes (old (path_in root key)) (new (path_in root key)) (Err made.0) = subst (λ (p : List ℕ). Makes (putting_of key) bytes (old p) (new p) (Err made.0)) is made.1 in
+      let made = through-err (λ r. MakesFile (putting_of key) bytes (old path) (new path) r) told fault through.came through.so through.is err in
+      let here : MakesFile (putting_of key) bytes (old (path_in root key)) (new (path_in root key)) (Err made.0) = subst (λ (p : List ℕ). MakesFile (putting_of key) bytes (old p) (new p) (Err made.0)) is made.1 in
       subst (λ (r : Result New StoreFault). Answers (λ n. Is_new n) time_of_new root key (PutNew key bytes why) r old new) (sym answer) (record {
         honest = tt;
         did = new-failed New key bytes why (old (path_in root key)) (new (path_in root key)) made.0 fault here made.2;
         others = only-at root asides path key old new there is only;
       })
 
-  pub answers-over : (version : Version) (told : Result Change StoreFault) (change : Change) (now : ℕ) (result : Over) → Through (Replaces (putting_of key) bytes version.0 (old path) (new path)) told → told ≡ Ok change → result ≡ told_over change (version_for key bytes) now
+  pub answers-over : (version : Version) (told : Result VersionChange StoreFault) (change : VersionChange) (now : ℕ) (result : Over) → Through (Replaces (putting_of key) bytes version.0 (old path) (new path)) told → told ≡ Ok change → result ≡ told_over change (version_for key bytes) now
       → Answers (λ o. Is_over o) time_of_over root key (PutOver key bytes version why) (Ok result) old new
   answers-over version told change now result through ok answer =
       let replaces : Replaces (putting_of key) bytes version.0 (old path) (new path) (Ok change) = through-ok (λ r. Replaces (putting_of key) bytes version.0 (old path) (new path) r) told change through.came through.so through.is ok in
@@ -160,7 +160,7 @@ module _ (root asides path : List ℕ) (key : Key) (bytes : List ℕ) (why : Why
         others = only-at root asides path key old new there is only;
       })
 
-  pub answers-over-not : (version : Version) (told : Result Change StoreFault) (fault : StoreFault) (result : Result Over StoreFault) → Through (Replaces (putting_of key) bytes version.0 (old path) (new path)) told → told ≡ Err fault → result ≡ Err fault
+  pub answers-over-not : (version : Version) (told : Result VersionChange StoreFault) (fault : StoreFault) (result : Result Over StoreFault) → Through (Replaces (putting_of key) bytes version.0 (old path) (new path)) told → told ≡ Err fault → result ≡ Err fault
       → Answers (λ o. Is_over o) time_of_over root key (PutOver key bytes version why) result old new
   answers-over-not version told fault result through err answer =
       let made = through-err (λ r. Replaces (putting_of key) bytes version.0 (old path) (new path) r) told fault through.came through.so through.is err in

@@ -1,7 +1,7 @@
 -- What a loss of power may leave behind an operation.
 use Rattle.std.proofs.Common.{◌≡◌, ◌∙◌, ℕ, List, ap, sym, subst, inl, inr, ⊎_elim}
 use Rattle.std.specs.Prelude.{Option}
-use Rattle.folder.specs.Files.{Stored as StoredFile, Leaves}
+use Rattle.folder.specs.Files.{StoredFile, Leaves}
 use Rattle.whole_files.specs.Whole.{aside_in, IsLeft}
 use Rattle.whole_files.specs.Changes.{IsNew, IsOver}
 use Rattle.object_store.specs.declared.keys.Key.{Key}

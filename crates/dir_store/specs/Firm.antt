@@ -1,6 +1,5 @@
 -- Names of objects that a loss of power may still take.
-use Rattle.std.specs.Prelude.{◌≡◌, ◌≢◌, ◌++◌, ℕ, Bool, true, List, Option, codes}
-use Rattle.folder.specs.Files.{Stored}
+use Rattle.std.specs.Prelude.{◌≡◌, ℕ, Bool, true, List}
 use Rattle.object_store.specs.declared.keys.Key.{Key}
 use Rattle.object_files.specs.Paths.{IsKey, path_in}
 
@@ -11,7 +10,3 @@ AreFirm loose root = (key : Key) → IsKey key → loose (path_in root key) → 
 -- ... where no folder is to be flushed
 abbrev pub AreFirmIf : (settled : Bool) → (loose : List ℕ → Type 0) → (root : List ℕ) → Type 0
 AreFirmIf settled loose root = settled ≡ true → AreFirm loose root
-
--- all files but those beneath a folder stayed
-abbrev pub OnlyBeneath : (folder : List ℕ) → (old new : List ℕ → Option Stored) → Type 0
-OnlyBeneath folder old new = (p : List ℕ) → ((rest : List ℕ) → p ≢ folder ++ codes "/" ++ rest) → new p ≡ old p

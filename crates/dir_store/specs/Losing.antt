@@ -2,9 +2,10 @@
 use Rattle.std.specs.Prelude.{◌≡◌, ◌++◌, ℕ, not, Bool, true, List, Option, Some, None, codes}
 use Rattle.std.specs.List.{list_any}
 use Rattle.ice_ids.specs.Text.{same_id12, initial_id}
-use Rattle.folder.specs.Files.{Stored as StoredFile}
+use Rattle.folder.specs.Files.{StoredFile}
 use Rattle.object_store.specs.declared.keys.Key.{Key}
-use Rattle.object_store.specs.declared.keys.Key.TheVariants.{Snapshot, Manifest, Txn, Chunk, Branch, Tag, Tombstone, Lease}
+use Rattle.object_store.specs.declared.keys.Key.TheVariants.{Snapshot, Manifest, Txn, Chunk}
+use Rattle.object_store.specs.declared.keys.Key.TheVariants.{Branch, Tag, Tombstone, Lease}
 use Rattle.object_store.specs.declared.keys.Part.{Part}
 use Rattle.object_store.specs.declared.events.Entry.{Entry}
 use Rattle.object_store.specs.Machine.{Stored, part_of}
@@ -41,6 +42,6 @@ abbrev pub main_in : List ℕ → List ℕ
 main_in root = root ++ codes "/refs/branch.main/ref.json"
 
 -- no file is at the place of `main`, though such an object stands
-pub record IsLost (files : List ℕ → Option StoredFile) (root : List ℕ) : Type 0 where
+pub record HasLostMain (files : List ℕ → Option StoredFile) (root : List ℕ) : Type 0 where
   pub none : files (main_in root) ≡ None
   pub more : HoldsAnyMore (object_at files root)

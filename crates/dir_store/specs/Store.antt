@@ -1,5 +1,7 @@
--- The directory as a store: what is seen of it, and what its answers say of the bytes that they give or were given.
-use Rattle.std.specs.Prelude.{◌≡◌, ◌≢◌, ℕ, List, [], Bool, true, false, Option, Some, None, Result, Ok, Err}
+-- The directory as a store: what is seen of it, and what its answers say of the
+-- bytes that they give or were given.
+use Rattle.std.specs.Prelude.{◌≡◌, ◌≢◌, ℕ, List, [], Bool, true, false}
+use Rattle.std.specs.Prelude.{Option, Some, None, Result, Ok, Err}
 use Rattle.ice_base.specs.Ends.{raised}
 use Rattle.object_store.specs.declared.events.StoreFault.{StoreFault}
 use Rattle.object_store.specs.declared.events.StoreFault.TheVariants.{Failed, NoMemory}
@@ -39,8 +41,8 @@ abbrev pub asides_of : {F C : Type 0} → FolderStore F C → List ℕ
 asides_of s = asides_in s.directory.places
 
 -- the folders and files that it stands on
-abbrev pub tree_of : {F C : Type 0} → FolderStore F C → F
-tree_of s = s.directory.tree
+abbrev pub disk_of : {F C : Type 0} → FolderStore F C → F
+disk_of s = s.directory.tree
 
 abbrev pub clock_of : {F C : Type 0} → FolderStore F C → C
 clock_of s = s.clock
@@ -64,7 +66,8 @@ untold_view client faults = record { caller = untold client; seen = []; faults =
 abbrev pub view_of : {F C : Type 0} → FolderStore F C → View
 view_of s = untold_view (client_of s) (faults_of s)
 
--- in this directory, for the client 0, with no fault and no operation so far; no folder is to be flushed
+-- in this directory, for the client 0, with no fault and no operation so
+-- far; no folder is to be flushed
 pub record IsNewIn {F C : Type 0} (path : List ℕ) (clock : C) (s : FolderStore F C) : Type 0 where
   pub root : root_of s ≡ path
   pub client : client_of s ≡ 0
@@ -74,11 +77,12 @@ pub record IsNewIn {F C : Type 0} (path : List ℕ) (clock : C) (s : FolderStore
   pub first : first_fault_of s ≡ None
   pub settled : is_settled s ≡ true
 
--- an answer and a failure are one operation more, where a count can hold it, and want of memory is none
-abbrev pub IsMade : {A : Type 0} → Result A StoreFault → ℕ → ℕ → Type 0
-IsMade (Ok a) old new = new ≡ raised old
-IsMade (Err Failed) old new = new ≡ raised old
-IsMade (Err NoMemory) old new = new ≡ old
+-- an answer and a failure are one operation more, where a count can hold
+-- it, and want of memory is none
+abbrev pub Raises : {A : Type 0} → Result A StoreFault → ℕ → ℕ → Type 0
+Raises (Ok a) old new = new ≡ raised old
+Raises (Err Failed) old new = new ≡ raised old
+Raises (Err NoMemory) old new = new ≡ old
 
 -- ---- what answers say
 -- the version that is told is that of the bytes at this key

@@ -7,7 +7,7 @@ ghost use Rattle.dir_store.specs.inside.Telling.{told_got, told_new, told_over, 
 use ice_base::Bytes;
 use object_files::version_for;
 use object_store::{Gone, GoneAt, Got, Key, New, Over, Version};
-use whole_files::Change;
+use whole_files::VersionChange;
 
 /// What a get answers, where this was read.
 pub(crate) fn got(key: &Key, found: Option<Bytes>, now: u64) -> Got
@@ -43,15 +43,15 @@ pub(crate) fn new(key: &Key, found: Option<u64>, bytes: &[u8], now: u64) -> New
 }
 
 /// What a put over a version answers.
-pub(crate) fn over(key: &Key, change: Change, bytes: &[u8], now: u64) -> Over
+pub(crate) fn over(key: &Key, change: VersionChange, bytes: &[u8], now: u64) -> Over
     ensures { result ≡ told_over change (version_for key.now bytes.now) now }
 {
     match change {
-        Change::Made => Over::Done {
+        VersionChange::Made => Over::Done {
             version: version_for(key, bytes),
             now,
         },
-        Change::Moved(found) => Over::Moved {
+        VersionChange::Other(found) => Over::Moved {
             found: found.map(Version),
             now,
         },
@@ -70,12 +70,12 @@ pub(crate) fn gone(was_there: bool, now: u64) -> Gone
 }
 
 /// What a removal of a version answers.
-pub(crate) fn gone_at(change: Change, now: u64) -> GoneAt
+pub(crate) fn gone_at(change: VersionChange, now: u64) -> GoneAt
     ensures { result ≡ told_gone_at change now }
 {
     match change {
-        Change::Made => GoneAt::Done { now },
-        Change::Moved(found) => GoneAt::Moved {
+        VersionChange::Made => GoneAt::Done { now },
+        VersionChange::Other(found) => GoneAt::Moved {
             found: found.map(Version),
             now,
         },

@@ -2,9 +2,9 @@
 
 ghost use Rattle.std.specs.Prelude.{◌++◌, codes, map, string_bytes, IfOk, OnOk, IsTrue, MatchOption};
 ghost use Rattle.folder.specs.Files.{SameBut, NoneLoose, TellsLoose, NoLooser, Firms, Leaves, IsKept};
-ghost use Rattle.whole_files.specs.Whole.{SameFiles};
+ghost use Rattle.whole_files.specs.Whole.{SameFiles, OnlyAside};
 ghost use Rattle.object_files.specs.Paths.{aside_folder_in};
-ghost use Rattle.dir_store.specs.Firm.{AreFirm, OnlyBeneath};
+ghost use Rattle.dir_store.specs.Firm.{AreFirm};
 ghost use Rattle.dir_store.specs.inside.Flushing.{FirmsBeneath, AreFirmParts};
 
 use crate::claims::Claim;
@@ -51,8 +51,7 @@ fn remove_aside<F: Folder>(
     folder: &str,
     name: &str,
 ) -> Result<(), FileFault>
-    ensures { IsTrue F.tells → SameBut (folder.now ++ codes "/" ++ name.now) (F.files tree.old)
-        (F.files tree.new) }
+    ensures { IsTrue F.tells → OnlyAside folder.now (F.files tree.old) (F.files tree.new) }
 {
     if !is_aside(name) {
         return Ok(());
@@ -63,7 +62,7 @@ fn remove_aside<F: Folder>(
 
 /// Removes the files that were left aside in this folder.
 fn remove_asides<F: Folder>(tree: &mut F, alloc: Global, folder: &str) -> Result<(), FileFault>
-    ensures { IsTrue F.tells → OnlyBeneath folder.now (F.files tree.old) (F.files tree.new) }
+    ensures { IsTrue F.tells → OnlyAside folder.now (F.files tree.old) (F.files tree.new) }
 {
     let Some(names) = names_in(tree, alloc, folder)? else {
         return Ok(());
@@ -147,7 +146,7 @@ pub(crate) fn flush_all<F: Folder>(tree: &mut F, alloc: Global, root: &str) -> R
 
 /// Removes what was left aside in this directory, and flushes to disk which files and folders it holds.
 fn clear_in<F: Folder>(tree: &mut F, alloc: Global, root: &str) -> Result<(), FileFault>
-    ensures files { IsTrue F.tells → OnlyBeneath (aside_folder_in root.now) (F.files tree.old)
+    ensures files { IsTrue F.tells → OnlyAside (aside_folder_in root.now) (F.files tree.old)
         (F.files tree.new) }
     ensures firm { IsTrue F.tells → OnOk result (AreFirm (F.loose tree.new) root.now) }
 {

@@ -1,15 +1,15 @@
 //! The directory on disk, as it is worked on.
 
-ghost use Rattle.std.specs.Prelude.{◌≡◌, true, false, None, Some, Ok, IfOk, IfErr, OnOk, IsTrue, MatchResult, option_copied, string_bytes};
+ghost use Rattle.std.specs.Prelude.{◌≡◌, true, false, None, Some, Ok, IfOk, OnOk, IsTrue, MatchResult, option_copied, string_bytes};
 ghost use Rattle.std.specs.Option.{option_or};
 ghost use Rattle.folder.specs.Files.{SameBut, NoLooser, Leaves, IsKept, IsChanged};
 ghost use Rattle.whole_files.specs.Places.{root_of, asides_of};
 ghost use Rattle.whole_files.specs.Whole.{SameFiles, OnlyAt, IsOutside, LooserAside, IsLeft, bytes_at};
-ghost use Rattle.whole_files.specs.Changes.{Makes, Replaces, IsMoved, IsNew, IsOver, IsGone, UnlessFailed};
-ghost use Rattle.object_files.specs.Paths.{path_in, aside_folder_in};
+ghost use Rattle.whole_files.specs.Changes.{MakesFile, Replaces, IsOtherVersion, IsNew, IsOver, IsGone, UnlessFailed};
+ghost use Rattle.object_files.specs.Paths.{path_in, folder_in, aside_folder_in};
 ghost use Rattle.object_files.specs.Versions.{putting_of};
 ghost use Rattle.dir_store.specs.inside.Telling.{as_told, Through, Removed, RemovedVersion, settled_after};
-ghost use Rattle.dir_store.specs.Faults.{TellsFirst};
+ghost use Rattle.dir_store.specs.Faults.{TellsFirst, TellsFirstIn};
 ghost use Rattle.dir_store.specs.Firm.{AreFirmIf};
 ghost use Rattle.dir_store.specs.Listings.{IsListed};
 ghost use Rattle.dir_store.specs.Contents.{object_at, ListsAll};
@@ -18,12 +18,13 @@ ghost use Rattle.object_store.specs.declared.events.StoreFault.TheVariants as St
 use crate::clearing::flush_all;
 use folder::{FileFault, Folder, Trouble};
 use ice_base::Bytes;
-use object_files::{ListFault, aside_folder, folder_of, list_files, path_of, putting_of};
+use object_files::{ListFault, aside_folder, folder_of, joined, list_files, path_of, putting_of};
 use object_store::{Entries, Key, Part, StoreFault};
 use std::alloc::{AllocError, Global};
 use std::fmt;
 use whole_files::{
-    Change, Known, Places, Putting, make_file, read_file, remove_file, remove_version, replace_file,
+    Known, Places, Putting, VersionChange, make_file, read_file, remove_file, remove_version,
+    replace_file,
 };
 
 /// The first call on files that failed, and where.
@@ -34,13 +35,21 @@ pub struct FirstFault {
 }
 
 impl FirstFault {
+    ghost use Rattle.dir_store.specs.Faults.{trouble_of};
+
     /// The call, and why it failed.
-    pub fn trouble(&self) -> Trouble {
+    pub fn trouble(&self) -> Trouble
+        ensures { result ≡ trouble_of self.now }
+    {
         self.trouble
     }
 }
 
 impl fmt::Display for FirstFault {
+    ghost use Rattle.dir_store.specs.Texts.{fault_text};
+
+    ghost output = { fault_text };
+
     fn fmt<W: fmt::Write>(&self, f: &mut fmt::Formatter<W>) -> fmt::Result {
         let path = self.path.as_str();
         let Trouble { call, cause } = self.trouble;
@@ -119,11 +128,11 @@ impl<F: Folder> Directory<F> {
 
     /// The path of a part's folder.
     fn part(&self, part: Part) -> Result<String, StoreFault>
-        ensures { IfErr result (λ fault. fault ≡ StoreFault.NoMemory) }
+        ensures { MatchResult result
+            (λ path. string_bytes path ≡ folder_in (root_of self.now.places) part)
+            (λ fault. fault ≡ StoreFault.NoMemory) }
     {
-        let root = self.places.root();
-        let folder = folder_of(part);
-        or_no_memory(format!(in self.alloc; "{root}/{folder}"))
+        or_no_memory(joined(self.alloc, self.places.root(), folder_of(part)))
     }
 
     /// Keeps a failure, if it is the first. Folders are to be flushed then.
@@ -146,7 +155,8 @@ impl<F: Folder> Directory<F> {
         ensures tree { self.new.tree ≡ self.old.tree }
         ensures places { self.new.places ≡ self.old.places }
         ensures settled { self.new.settled ≡ settled_after self.old.settled done }
-        ensures first { TellsFirst result self.old.first_fault self.new.first_fault }
+        ensures first { TellsFirst (string_bytes path) result self.old.first_fault
+            self.new.first_fault }
     {
         match done {
             Ok(value) => Ok(value),
@@ -185,7 +195,7 @@ impl<F: Folder> Directory<F> {
         bytes: &[u8],
     ) -> Result<Option<u64>, FileFault>
         requires { IsOutside (asides_of self.old.places) path.now }
-        ensures made { IsTrue F.tells → Makes putting bytes.now (F.files self.old.tree path.now)
+        ensures made { IsTrue F.tells → MakesFile putting bytes.now (F.files self.old.tree path.now)
             (F.files self.new.tree path.now) result }
         ensures files { IsTrue F.tells → OnlyAt (asides_of self.old.places) path.now
             (F.files self.old.tree) (F.files self.new.tree) }
@@ -222,12 +232,12 @@ impl<F: Folder> Directory<F> {
         path: &str,
         bytes: &[u8],
         old: u64,
-    ) -> Result<Change, FileFault>
+    ) -> Result<VersionChange, FileFault>
         requires { IsOutside (asides_of self.old.places) path.now }
         ensures replaced { IsTrue F.tells
             → Replaces putting bytes.now old (F.files self.old.tree path.now)
             (F.files self.new.tree path.now) result }
-        ensures moved { IfOk result (IsMoved old) }
+        ensures moved { IfOk result (IsOtherVersion old) }
         ensures files { IsTrue F.tells → OnlyAt (asides_of self.old.places) path.now
             (F.files self.old.tree) (F.files self.new.tree) }
         ensures firm { IsTrue F.tells
@@ -285,11 +295,11 @@ impl<F: Folder> Directory<F> {
         putting: Putting,
         path: &str,
         old: u64,
-    ) -> Result<Change, FileFault>
+    ) -> Result<VersionChange, FileFault>
         ensures removed { IsTrue F.tells
             → RemovedVersion putting old (F.files self.old.tree path.now)
             (F.files self.new.tree path.now) result }
-        ensures moved { IfOk result (IsMoved old) }
+        ensures moved { IfOk result (IsOtherVersion old) }
         ensures files { IsTrue F.tells → SameBut path.now (F.files self.old.tree)
             (F.files self.new.tree) }
         ensures firm { IsTrue F.tells
@@ -315,7 +325,8 @@ impl<F: Folder> Directory<F> {
             → IfOk result (λ found. found ≡ bytes_at (F.files self.old.tree (string_bytes path))) }
         ensures tree { self.new.tree ≡ self.old.tree }
         ensures places { self.new.places ≡ self.old.places }
-        ensures first { TellsFirst result self.old.first_fault self.new.first_fault }
+        ensures first { TellsFirst (string_bytes path) result self.old.first_fault
+            self.new.first_fault }
         ensures kept { IsTrue F.tells → AreFirmIf self.old.settled (F.loose self.old.tree)
             (root_of self.old.places) → AreFirmIf self.new.settled (F.loose self.new.tree)
             (root_of self.old.places) }
@@ -334,7 +345,7 @@ impl<F: Folder> Directory<F> {
         requires { IsOutside (asides_of self.old.places) (string_bytes path) }
         ensures made { IsTrue F.tells
             → Through
-            (Makes (putting_of key.now) bytes.now (F.files self.old.tree (string_bytes path))
+            (MakesFile (putting_of key.now) bytes.now (F.files self.old.tree (string_bytes path))
             (F.files self.new.tree (string_bytes path))) result }
         ensures files { IsTrue F.tells → OnlyAt (asides_of self.old.places) (string_bytes path)
             (F.files self.old.tree) (F.files self.new.tree) }
@@ -347,7 +358,8 @@ impl<F: Folder> Directory<F> {
             (IsNew bytes.now (F.files self.old.tree (string_bytes path))) (F.files self.old.tree))
             (F.left self.old.tree) (F.left self.new.tree) }
         ensures settled { OnOk result (self.new.settled ≡ true) }
-        ensures first { TellsFirst result self.old.first_fault self.new.first_fault }
+        ensures first { TellsFirst (string_bytes path) result self.old.first_fault
+            self.new.first_fault }
         ensures kept { IsTrue F.tells → AreFirmIf self.old.settled (F.loose self.old.tree)
             (root_of self.old.places) → AreFirmIf self.new.settled (F.loose self.new.tree)
             (root_of self.old.places) }
@@ -363,9 +375,9 @@ impl<F: Folder> Directory<F> {
         path: String,
         bytes: &[u8],
         old: u64,
-    ) -> Result<Change, StoreFault>
+    ) -> Result<VersionChange, StoreFault>
         requires { IsOutside (asides_of self.old.places) (string_bytes path) }
-        ensures moved { IfOk result (IsMoved old) }
+        ensures moved { IfOk result (IsOtherVersion old) }
         ensures replaced { IsTrue F.tells
             → Through (Replaces (putting_of key.now) bytes.now old
             (F.files self.old.tree (string_bytes path)) (F.files self.new.tree (string_bytes path)))
@@ -381,7 +393,8 @@ impl<F: Folder> Directory<F> {
             (IsOver (putting_of key.now) bytes.now old (F.files self.old.tree (string_bytes path)))
             (F.files self.old.tree)) (F.left self.old.tree) (F.left self.new.tree) }
         ensures settled { OnOk result (self.new.settled ≡ true) }
-        ensures first { TellsFirst result self.old.first_fault self.new.first_fault }
+        ensures first { TellsFirst (string_bytes path) result self.old.first_fault
+            self.new.first_fault }
         ensures kept { IsTrue F.tells → AreFirmIf self.old.settled (F.loose self.old.tree)
             (root_of self.old.places) → AreFirmIf self.new.settled (F.loose self.new.tree)
             (root_of self.old.places) }
@@ -404,7 +417,8 @@ impl<F: Folder> Directory<F> {
             → Leaves (IsChanged (string_bytes path) (λ f. f ≡ None) (F.files self.old.tree))
             (F.left self.old.tree) (F.left self.new.tree) }
         ensures settled { OnOk result (self.new.settled ≡ true) }
-        ensures first { TellsFirst result self.old.first_fault self.new.first_fault }
+        ensures first { TellsFirst (string_bytes path) result self.old.first_fault
+            self.new.first_fault }
         ensures kept { IsTrue F.tells → AreFirmIf self.old.settled (F.loose self.old.tree)
             (root_of self.old.places) → AreFirmIf self.new.settled (F.loose self.new.tree)
             (root_of self.old.places) }
@@ -419,8 +433,8 @@ impl<F: Folder> Directory<F> {
         key: &Key,
         path: String,
         old: u64,
-    ) -> Result<Change, StoreFault>
-        ensures moved { IfOk result (IsMoved old) }
+    ) -> Result<VersionChange, StoreFault>
+        ensures moved { IfOk result (IsOtherVersion old) }
         ensures removed { IsTrue F.tells
             → Through
             (RemovedVersion (putting_of key.now) old (F.files self.old.tree (string_bytes path))
@@ -436,7 +450,8 @@ impl<F: Folder> Directory<F> {
             (IsGone (putting_of key.now) old (F.files self.old.tree (string_bytes path)))
             (F.files self.old.tree)) (F.left self.old.tree) (F.left self.new.tree) }
         ensures settled { OnOk result (self.new.settled ≡ true) }
-        ensures first { TellsFirst result self.old.first_fault self.new.first_fault }
+        ensures first { TellsFirst (string_bytes path) result self.old.first_fault
+            self.new.first_fault }
         ensures kept { IsTrue F.tells → AreFirmIf self.old.settled (F.loose self.old.tree)
             (root_of self.old.places) → AreFirmIf self.new.settled (F.loose self.new.tree)
             (root_of self.old.places) }
@@ -453,7 +468,8 @@ impl<F: Folder> Directory<F> {
             part) }
         ensures tree { self.new.tree ≡ self.old.tree }
         ensures places { self.new.places ≡ self.old.places }
-        ensures first { TellsFirst result self.old.first_fault self.new.first_fault }
+        ensures first { TellsFirstIn (root_of self.old.places) part result self.old.first_fault
+            self.new.first_fault }
         ensures kept { IsTrue F.tells → AreFirmIf self.old.settled (F.loose self.old.tree)
             (root_of self.old.places) → AreFirmIf self.new.settled (F.loose self.new.tree)
             (root_of self.old.places) }

@@ -3,6 +3,7 @@
 ghost use Rattle.std.specs.Prelude.{◌≡◌};
 ghost use Rattle.dir_store.specs.declared.faults.OpenFault.TheVariants as Opening;
 ghost use Rattle.dir_store.specs.Faults.{open_fault};
+ghost use Rattle.dir_store.specs.Texts.{open_text};
 
 use folder::{FileFault, Trouble};
 use std::fmt;
@@ -25,6 +26,8 @@ pub enum OpenFault {
 }
 
 impl fmt::Display for OpenFault {
+    ghost output = { open_text };
+
     fn fmt<W: fmt::Write>(&self, f: &mut fmt::Formatter<W>) -> fmt::Result {
         match self {
             OpenFault::Missing => f.write_str("nothing is there"),

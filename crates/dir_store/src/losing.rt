@@ -2,7 +2,7 @@
 
 ghost use Rattle.std.specs.Prelude.{◌≡◌, true, IfOk, IsTrue, string_bytes};
 ghost use Rattle.dir_store.specs.Contents.{object_at};
-ghost use Rattle.dir_store.specs.Losing.{is_more, tell_more, HoldsMore, HoldsAnyMore, main_in, IsLost};
+ghost use Rattle.dir_store.specs.Losing.{is_more, tell_more, HoldsMore, HoldsAnyMore, main_in, HasLostMain};
 
 use folder::{FileFault, Folder};
 use ice_ids::Id12;
@@ -81,7 +81,7 @@ pub(crate) fn is_main_lost<F: Folder>(
     root: &str,
 ) -> Result<bool, FileFault>
     ensures { IsTrue F.tells
-        → IfOk result (λ lost. lost ≡ true → IsLost (F.files tree.now) root.now) }
+        → IfOk result (λ lost. lost ≡ true → HasLostMain (F.files tree.now) root.now) }
 {
     let main = in_memory(main_in(alloc, root))?;
     if tree.look(main.as_str())?.is_some() {

@@ -2,11 +2,12 @@
 
 ghost use Rattle.std.specs.Prelude.{◌≡◌, refl, true, false, IfOk, OnOk, IsTrue, option_copied};
 ghost use Rattle.object_store.specs.Callers.{Called, Counted, as_client};
-ghost use Rattle.dir_store.specs.Store.{view_of, client_of, faults_of, operations_of, clock_of, tree_of, root_of, asides_of, first_fault_of, is_settled, IsNewIn, IsMade, IsRightGot, IsRightNew, IsRightOver, IsRightGoneAt, time_of_got, time_of_new, time_of_over, time_of_gone, time_of_gone_at};
-ghost use Rattle.dir_store.specs.Faults.{TellsFirst};
+ghost use Rattle.dir_store.specs.Store.{view_of, client_of, faults_of, operations_of, clock_of, disk_of, root_of, asides_of, first_fault_of, is_settled, IsNewIn, Raises, IsRightGot, IsRightNew, IsRightOver, IsRightGoneAt, time_of_got, time_of_new, time_of_over, time_of_gone, time_of_gone_at};
+ghost use Rattle.dir_store.specs.Faults.{TellsFirst, TellsFirstIn};
 ghost use Rattle.dir_store.specs.Listings.{IsListed};
 ghost use Rattle.dir_store.specs.Firm.{AreFirmIf};
 ghost use Rattle.folder.specs.Files.{NoLooser, Leaves};
+ghost use Rattle.object_files.specs.Paths.{path_in};
 ghost use Rattle.whole_files.specs.Whole.{LooserAside};
 ghost use Rattle.dir_store.specs.Contents.{Answers, IsLeftBy, Lasts, object_at, ListsAll};
 
@@ -85,7 +86,7 @@ impl<F: Folder + Drop, C: Clock + Drop> FolderStore<F, C> {
         clock: C,
     ) -> Result<FolderStore<F, C>, AllocError>
         ensures new { IfOk result (IsNewIn path.now clock) }
-        ensures tree { IfOk result (λ store. tree_of store ≡ tree) }
+        ensures tree { IfOk result (λ store. disk_of store ≡ tree) }
     {
         Ok(FolderStore {
             directory: Directory::at(tree, alloc, path)?,
@@ -98,7 +99,7 @@ impl<F: Folder + Drop, C: Clock + Drop> FolderStore<F, C> {
 
     /// The folder on which the store stands.
     pub fn into_tree(self) -> F
-        ensures { result ≡ tree_of self }
+        ensures { result ≡ disk_of self }
     {
         self.directory.into_tree()
     }
@@ -130,7 +131,7 @@ impl<F: Folder, C: Clock> FolderStore<F, C> {
     fn counted<T>(&mut self, done: Result<T, StoreFault>) -> Result<T, StoreFault>
         ensures is { result ≡ done }
         ensures counted { Counted result (faults_of self.old) (faults_of self.new) }
-        ensures made { IsMade result (operations_of self.old) (operations_of self.new) }
+        ensures made { Raises result (operations_of self.old) (operations_of self.new) }
         ensures client { client_of self.new ≡ client_of self.old }
         ensures clock { clock_of self.new ≡ clock_of self.old }
         ensures directory { self.new.directory ≡ self.old.directory }
@@ -157,15 +158,16 @@ impl<L: Rule, F: Folder, C: Clock> ObjectStore<L> for FolderStore<F, C> {
             (view_of self.old) (view_of self.new) }
         ensures content { IfOk result (IsRightGot key.now) }
         ensures machine { IsTrue F.tells → Answers (λ got. Reply.Got got) time_of_got
-            (root_of self.old) key.now (Op.Get key.now) result (F.files (tree_of self.old))
-            (F.files (tree_of self.new)) }
-        ensures tree { tree_of self.new ≡ tree_of self.old }
-        ensures made { IsMade result (operations_of self.old) (operations_of self.new) }
+            (root_of self.old) key.now (Op.Get key.now) result (F.files (disk_of self.old))
+            (F.files (disk_of self.new)) }
+        ensures tree { disk_of self.new ≡ disk_of self.old }
+        ensures made { Raises result (operations_of self.old) (operations_of self.new) }
         ensures time { IfOk result (λ got. C.gives (clock_of self.old) (time_of_got got)
             (clock_of self.new)) }
-        ensures first { TellsFirst result (first_fault_of self.old) (first_fault_of self.new) }
-        ensures kept { IsTrue F.tells → AreFirmIf (is_settled self.old) (F.loose (tree_of self.old))
-            (root_of self.old) → AreFirmIf (is_settled self.new) (F.loose (tree_of self.new))
+        ensures first { TellsFirst (path_in (root_of self.old) key.now) result
+            (first_fault_of self.old) (first_fault_of self.new) }
+        ensures kept { IsTrue F.tells → AreFirmIf (is_settled self.old) (F.loose (disk_of self.old))
+            (root_of self.old) → AreFirmIf (is_settled self.new) (F.loose (disk_of self.new))
             (root_of self.old) }
     {
         let path = self.directory.path(key)?;
@@ -181,24 +183,25 @@ impl<L: Rule, F: Folder, C: Clock> ObjectStore<L> for FolderStore<F, C> {
         ensures content { IfOk result (IsRightNew key.now bytes.now) }
         ensures machine { IsTrue F.tells → Answers (λ new. Reply.New new) time_of_new
             (root_of self.old) key.now (Op.PutNew key.now bytes.now why) result
-            (F.files (tree_of self.old)) (F.files (tree_of self.new)) }
+            (F.files (disk_of self.old)) (F.files (disk_of self.new)) }
         ensures firm { IsTrue F.tells
-            → OnOk result (LooserAside (asides_of self.old) (F.loose (tree_of self.old))
-            (F.loose (tree_of self.new))) }
-        ensures made { IsMade result (operations_of self.old) (operations_of self.new) }
+            → OnOk result (LooserAside (asides_of self.old) (F.loose (disk_of self.old))
+            (F.loose (disk_of self.new))) }
+        ensures made { Raises result (operations_of self.old) (operations_of self.new) }
         ensures time { IfOk result (λ new. C.gives (clock_of self.old) (time_of_new new)
             (clock_of self.new)) }
         ensures left { IsTrue F.tells
             → Leaves (IsLeftBy (root_of self.old) key.now (Op.PutNew key.now bytes.now why)
-            (F.files (tree_of self.old))) (F.left (tree_of self.old)) (F.left (tree_of self.new)) }
+            (F.files (disk_of self.old))) (F.left (disk_of self.old)) (F.left (disk_of self.new)) }
         ensures lasts { IsTrue F.tells
-            → OnOk result (Lasts (asides_of self.old) (F.loose (tree_of self.old))
-            (F.left (tree_of self.new) (F.moment (tree_of self.new)))
-            (F.files (tree_of self.new))) }
-        ensures first { TellsFirst result (first_fault_of self.old) (first_fault_of self.new) }
+            → OnOk result (Lasts (asides_of self.old) (F.loose (disk_of self.old))
+            (F.left (disk_of self.new) (F.moment (disk_of self.new)))
+            (F.files (disk_of self.new))) }
+        ensures first { TellsFirst (path_in (root_of self.old) key.now) result
+            (first_fault_of self.old) (first_fault_of self.new) }
         ensures settled { OnOk result (is_settled self.new ≡ true) }
-        ensures kept { IsTrue F.tells → AreFirmIf (is_settled self.old) (F.loose (tree_of self.old))
-            (root_of self.old) → AreFirmIf (is_settled self.new) (F.loose (tree_of self.new))
+        ensures kept { IsTrue F.tells → AreFirmIf (is_settled self.old) (F.loose (disk_of self.old))
+            (root_of self.old) → AreFirmIf (is_settled self.new) (F.loose (disk_of self.new))
             (root_of self.old) }
     {
         let path = self.directory.path(key)?;
@@ -220,24 +223,25 @@ impl<L: Rule, F: Folder, C: Clock> ObjectStore<L> for FolderStore<F, C> {
         ensures content { IfOk result (IsRightOver key.now bytes.now old) }
         ensures machine { IsTrue F.tells → Answers (λ over. Reply.Over over) time_of_over
             (root_of self.old) key.now (Op.PutOver key.now bytes.now old why) result
-            (F.files (tree_of self.old)) (F.files (tree_of self.new)) }
+            (F.files (disk_of self.old)) (F.files (disk_of self.new)) }
         ensures firm { IsTrue F.tells
-            → OnOk result (LooserAside (asides_of self.old) (F.loose (tree_of self.old))
-            (F.loose (tree_of self.new))) }
-        ensures made { IsMade result (operations_of self.old) (operations_of self.new) }
+            → OnOk result (LooserAside (asides_of self.old) (F.loose (disk_of self.old))
+            (F.loose (disk_of self.new))) }
+        ensures made { Raises result (operations_of self.old) (operations_of self.new) }
         ensures time { IfOk result (λ over. C.gives (clock_of self.old) (time_of_over over)
             (clock_of self.new)) }
         ensures left { IsTrue F.tells
             → Leaves (IsLeftBy (root_of self.old) key.now (Op.PutOver key.now bytes.now old why)
-            (F.files (tree_of self.old))) (F.left (tree_of self.old)) (F.left (tree_of self.new)) }
+            (F.files (disk_of self.old))) (F.left (disk_of self.old)) (F.left (disk_of self.new)) }
         ensures lasts { IsTrue F.tells
-            → OnOk result (Lasts (asides_of self.old) (F.loose (tree_of self.old))
-            (F.left (tree_of self.new) (F.moment (tree_of self.new)))
-            (F.files (tree_of self.new))) }
-        ensures first { TellsFirst result (first_fault_of self.old) (first_fault_of self.new) }
+            → OnOk result (Lasts (asides_of self.old) (F.loose (disk_of self.old))
+            (F.left (disk_of self.new) (F.moment (disk_of self.new)))
+            (F.files (disk_of self.new))) }
+        ensures first { TellsFirst (path_in (root_of self.old) key.now) result
+            (first_fault_of self.old) (first_fault_of self.new) }
         ensures settled { OnOk result (is_settled self.new ≡ true) }
-        ensures kept { IsTrue F.tells → AreFirmIf (is_settled self.old) (F.loose (tree_of self.old))
-            (root_of self.old) → AreFirmIf (is_settled self.new) (F.loose (tree_of self.new))
+        ensures kept { IsTrue F.tells → AreFirmIf (is_settled self.old) (F.loose (disk_of self.old))
+            (root_of self.old) → AreFirmIf (is_settled self.new) (F.loose (disk_of self.new))
             (root_of self.old) }
     {
         let path = self.directory.path(key)?;
@@ -251,24 +255,25 @@ impl<L: Rule, F: Folder, C: Clock> ObjectStore<L> for FolderStore<F, C> {
         ensures call { Called L.may (λ gone. Reply.Gone gone) (Op.Remove key.now why) result
             (view_of self.old) (view_of self.new) }
         ensures machine { IsTrue F.tells → Answers (λ gone. Reply.Gone gone) time_of_gone
-            (root_of self.old) key.now (Op.Remove key.now why) result (F.files (tree_of self.old))
-            (F.files (tree_of self.new)) }
+            (root_of self.old) key.now (Op.Remove key.now why) result (F.files (disk_of self.old))
+            (F.files (disk_of self.new)) }
         ensures firm { IsTrue F.tells
-            → OnOk result (NoLooser (F.loose (tree_of self.old)) (F.loose (tree_of self.new))) }
-        ensures made { IsMade result (operations_of self.old) (operations_of self.new) }
+            → OnOk result (NoLooser (F.loose (disk_of self.old)) (F.loose (disk_of self.new))) }
+        ensures made { Raises result (operations_of self.old) (operations_of self.new) }
         ensures time { IfOk result (λ gone. C.gives (clock_of self.old) (time_of_gone gone)
             (clock_of self.new)) }
         ensures left { IsTrue F.tells
             → Leaves (IsLeftBy (root_of self.old) key.now (Op.Remove key.now why)
-            (F.files (tree_of self.old))) (F.left (tree_of self.old)) (F.left (tree_of self.new)) }
+            (F.files (disk_of self.old))) (F.left (disk_of self.old)) (F.left (disk_of self.new)) }
         ensures lasts { IsTrue F.tells
-            → OnOk result (Lasts (asides_of self.old) (F.loose (tree_of self.old))
-            (F.left (tree_of self.new) (F.moment (tree_of self.new)))
-            (F.files (tree_of self.new))) }
-        ensures first { TellsFirst result (first_fault_of self.old) (first_fault_of self.new) }
+            → OnOk result (Lasts (asides_of self.old) (F.loose (disk_of self.old))
+            (F.left (disk_of self.new) (F.moment (disk_of self.new)))
+            (F.files (disk_of self.new))) }
+        ensures first { TellsFirst (path_in (root_of self.old) key.now) result
+            (first_fault_of self.old) (first_fault_of self.new) }
         ensures settled { OnOk result (is_settled self.new ≡ true) }
-        ensures kept { IsTrue F.tells → AreFirmIf (is_settled self.old) (F.loose (tree_of self.old))
-            (root_of self.old) → AreFirmIf (is_settled self.new) (F.loose (tree_of self.new))
+        ensures kept { IsTrue F.tells → AreFirmIf (is_settled self.old) (F.loose (disk_of self.old))
+            (root_of self.old) → AreFirmIf (is_settled self.new) (F.loose (disk_of self.new))
             (root_of self.old) }
     {
         let path = self.directory.path(key)?;
@@ -284,23 +289,24 @@ impl<L: Rule, F: Folder, C: Clock> ObjectStore<L> for FolderStore<F, C> {
         ensures content { IfOk result (IsRightGoneAt old) }
         ensures machine { IsTrue F.tells → Answers (λ gone. Reply.GoneAt gone) time_of_gone_at
             (root_of self.old) key.now (Op.RemoveAt key.now old why) result
-            (F.files (tree_of self.old)) (F.files (tree_of self.new)) }
+            (F.files (disk_of self.old)) (F.files (disk_of self.new)) }
         ensures firm { IsTrue F.tells
-            → OnOk result (NoLooser (F.loose (tree_of self.old)) (F.loose (tree_of self.new))) }
-        ensures made { IsMade result (operations_of self.old) (operations_of self.new) }
+            → OnOk result (NoLooser (F.loose (disk_of self.old)) (F.loose (disk_of self.new))) }
+        ensures made { Raises result (operations_of self.old) (operations_of self.new) }
         ensures time { IfOk result (λ gone. C.gives (clock_of self.old) (time_of_gone_at gone)
             (clock_of self.new)) }
         ensures left { IsTrue F.tells
             → Leaves (IsLeftBy (root_of self.old) key.now (Op.RemoveAt key.now old why)
-            (F.files (tree_of self.old))) (F.left (tree_of self.old)) (F.left (tree_of self.new)) }
+            (F.files (disk_of self.old))) (F.left (disk_of self.old)) (F.left (disk_of self.new)) }
         ensures lasts { IsTrue F.tells
-            → OnOk result (Lasts (asides_of self.old) (F.loose (tree_of self.old))
-            (F.left (tree_of self.new) (F.moment (tree_of self.new)))
-            (F.files (tree_of self.new))) }
-        ensures first { TellsFirst result (first_fault_of self.old) (first_fault_of self.new) }
+            → OnOk result (Lasts (asides_of self.old) (F.loose (disk_of self.old))
+            (F.left (disk_of self.new) (F.moment (disk_of self.new)))
+            (F.files (disk_of self.new))) }
+        ensures first { TellsFirst (path_in (root_of self.old) key.now) result
+            (first_fault_of self.old) (first_fault_of self.new) }
         ensures settled { OnOk result (is_settled self.new ≡ true) }
-        ensures kept { IsTrue F.tells → AreFirmIf (is_settled self.old) (F.loose (tree_of self.old))
-            (root_of self.old) → AreFirmIf (is_settled self.new) (F.loose (tree_of self.new))
+        ensures kept { IsTrue F.tells → AreFirmIf (is_settled self.old) (F.loose (disk_of self.old))
+            (root_of self.old) → AreFirmIf (is_settled self.new) (F.loose (disk_of self.new))
             (root_of self.old) }
     {
         let path = self.directory.path(key)?;
@@ -316,15 +322,16 @@ impl<L: Rule, F: Folder, C: Clock> ObjectStore<L> for FolderStore<F, C> {
         ensures content { IfOk result (λ listed. IsListed part listed.entries) }
         ensures machine { IsTrue F.tells
             → IfOk result
-            (λ listed. ListsAll (object_at (F.files (tree_of self.old)) (root_of self.old)) part
+            (λ listed. ListsAll (object_at (F.files (disk_of self.old)) (root_of self.old)) part
             listed.entries) }
-        ensures tree { tree_of self.new ≡ tree_of self.old }
-        ensures made { IsMade result (operations_of self.old) (operations_of self.new) }
+        ensures tree { disk_of self.new ≡ disk_of self.old }
+        ensures made { Raises result (operations_of self.old) (operations_of self.new) }
         ensures time { IfOk result (λ listed. C.gives (clock_of self.old) listed.now
             (clock_of self.new)) }
-        ensures first { TellsFirst result (first_fault_of self.old) (first_fault_of self.new) }
-        ensures kept { IsTrue F.tells → AreFirmIf (is_settled self.old) (F.loose (tree_of self.old))
-            (root_of self.old) → AreFirmIf (is_settled self.new) (F.loose (tree_of self.new))
+        ensures first { TellsFirstIn (root_of self.old) part result (first_fault_of self.old)
+            (first_fault_of self.new) }
+        ensures kept { IsTrue F.tells → AreFirmIf (is_settled self.old) (F.loose (disk_of self.old))
+            (root_of self.old) → AreFirmIf (is_settled self.new) (F.loose (disk_of self.new))
             (root_of self.old) }
     {
         let listing = self.directory.list(part);

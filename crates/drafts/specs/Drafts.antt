@@ -2,7 +2,8 @@
 use Rattle.std.specs.Prelude.{◌≡◌, ◌⊎◌, ℕ, Bool, true, false, List, [], ◌++◌}
 use Rattle.ice_base.specs.Ends.{OutputAt, WroteWhole, WroteLess}
 
--- what is seen of a draft: how many bytes can wait, those that wait to be written, and whether a write has failed
+-- what is seen of a draft: how many bytes can wait, those that wait to be written,
+-- and whether a write has failed
 pub record DraftAt : Type 0 where
   pub room : ℕ
   pub waiting : List ℕ
@@ -21,7 +22,8 @@ pub record Passed (d : DraftAt) (x : OutputAt) (e : DraftAt) (y : OutputAt) : Ty
   pub out : y ≡ x
 
 -- Of what waited and the text behind it, the first bytes were written, and the others wait.
-pub record Kept (d : DraftAt) (x : OutputAt) (text : List ℕ) (e : DraftAt) (y : OutputAt) : Type 0 where
+pub record Kept (d : DraftAt) (x : OutputAt) (text : List ℕ) (e : DraftAt)
+    (y : OutputAt) : Type 0 where
   pub before : d.unwritten ≡ false
   pub after : e.unwritten ≡ false
   pub sent : List ℕ
@@ -29,12 +31,14 @@ pub record Kept (d : DraftAt) (x : OutputAt) (text : List ℕ) (e : DraftAt) (y 
   pub all : d.waiting ++ text ≡ sent ++ e.waiting
 
 -- A write failed: of what waited and the text behind it, the first bytes were written, but not all.
-pub record Failed (d : DraftAt) (x : OutputAt) (text : List ℕ) (e : DraftAt) (y : OutputAt) : Type 0 where
+pub record Failed (d : DraftAt) (x : OutputAt) (text : List ℕ) (e : DraftAt)
+    (y : OutputAt) : Type 0 where
   pub before : d.unwritten ≡ false
   pub after : e.unwritten ≡ true
   pub wrote : WroteLess x y (d.waiting ++ text)
 
-pub record Took (d : DraftAt) (x : OutputAt) (text : List ℕ) (e : DraftAt) (y : OutputAt) : Type 0 where
+pub record Took (d : DraftAt) (x : OutputAt) (text : List ℕ) (e : DraftAt)
+    (y : OutputAt) : Type 0 where
   pub is : Passed d x e y ⊎ (Kept d x text e y ⊎ Failed d x text e y)
 
 -- ---- a whole text

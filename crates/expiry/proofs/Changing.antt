@@ -34,18 +34,18 @@ use Rattle.expiry.specs.declared.look.Decision.TheVariants.{Gone, Keeps, Drops, 
 use Rattle.expiry.specs.declared.standing.Expired.{Expired}
 use Rattle.expiry.specs.Looks.{look_program}
 use Rattle.expiry.specs.Plays.{ends_with, drop_op, drop_told, cut_told, decide, after_look, after_case, expire_each, after_listing, listing, all_done, expire_tags, expire_play}
-use Rattle.expiry.specs.Changes.{Change, change_of, changes_told, change_by, changed, changes_in, ChangesTold}
+use Rattle.expiry.specs.Changes.{ExpiryChange, change_of, changes_told, change_by, changed, changes_in, ChangesTold}
 use Rattle.expiry.proofs.Playing.{Reads}
 use Rattle.expiry.proofs.Reading.{look-reads}
 
 -- ---- lists
 changes-more : (own : List Event) (event : Event) → changes_in (own ++ event ∷ []) ≡ changes_in own ++ changed event.op event.reply
 changes-more [] event = append-nil (changed event.op event.reply)
-changes-more (x ∷ own) event = ap (λ (l : List Change). changed x.op x.reply ++ l) (changes-more own event) ∙ sym (append_assoc (changed x.op x.reply) (changes_in own) (changed event.op event.reply))
+changes-more (x ∷ own) event = ap (λ (l : List ExpiryChange). changed x.op x.reply ++ l) (changes-more own event) ∙ sym (append_assoc (changed x.op x.reply) (changes_in own) (changed event.op event.reply))
 
 told-more : (cases : List RefCase) (ref : Key) (what : What) → changes_told (cases ++ record { key = ref; what = what } ∷ []) ≡ changes_told cases ++ change_of ref what
 told-more [] ref what = append-nil (change_of ref what)
-told-more (c ∷ cases) ref what = ap (λ (l : List Change). change_of c.key c.what ++ l) (told-more cases ref what) ∙ sym (append_assoc (change_of c.key c.what) (changes_told cases) (change_of ref what))
+told-more (c ∷ cases) ref what = ap (λ (l : List ExpiryChange). change_of c.key c.what ++ l) (told-more cases ref what) ∙ sym (append_assoc (change_of c.key c.what) (changes_told cases) (change_of ref what))
 
 -- ---- replies
 -- a cut is told as one, or as moved
@@ -83,7 +83,7 @@ drop-same by (Lease id) version reply old new m = get-none by (Lease id) (Lease 
 
 module _ (by : Caller) (start : List Event) where
   -- these changes the client's own operations behind `start` were told to have made
-  record IsAt (c : List Change) (journal : List Event) : Type 0 where
+  record IsAt (c : List ExpiryChange) (journal : List Event) : Type 0 where
     more : List Event
     since : journal ≡ start ++ more
     changes : c ≡ changes_in (events_of by.number more)
@@ -91,15 +91,15 @@ module _ (by : Caller) (start : List Event) where
   at-begin : IsAt [] start
   at-begin = record { more = []; since = sym (append-nil start); changes = refl }
 
-  at-same : (c d : List Change) (h : List Event) → c ≡ d → IsAt c h → IsAt d h
-  at-same c d h e a = subst (λ (x : List Change). IsAt x h) e a
+  at-same : (c d : List ExpiryChange) (h : List Event) → c ≡ d → IsAt c h → IsAt d h
+  at-same c d h e a = subst (λ (x : List ExpiryChange). IsAt x h) e a
 
   own-waits : (old between : List Event) → Each (IsOther by) old between → (more : List Event) → events_of by.number (more ++ between) ≡ events_of by.number more
   own-waits old between o more =
       filter-append (λ (e : Event). e.client == by.number) more between
       ∙ (ap (λ (l : List Event). events_of by.number more ++ l) (events_of-others by old between o) ∙ append-nil (events_of by.number more))
 
-  at-step : (c : List Change) (op : Op) (reply : Reply) (journal new : List Event) → IsAt c journal → Makes by op reply journal new → IsAt (c ++ changed op reply) new
+  at-step : (c : List ExpiryChange) (op : Op) (reply : Reply) (journal new : List Event) → IsAt c journal → Makes by op reply journal new → IsAt (c ++ changed op reply) new
   at-step c op reply journal new a m =
       let event : Event = own_event by op reply m.time in
       let between = m.waits.between in
@@ -110,12 +110,12 @@ module _ (by : Caller) (start : List Event) where
       record {
         more = (a.more ++ between) ++ event ∷ [];
         since = m.is ∙ (ap (λ (h : List Event). h ++ event ∷ []) (m.waits.is ∙ (ap (λ (h : List Event). h ++ between) a.since ∙ append_assoc start a.more between)) ∙ append_assoc start (a.more ++ between) (event ∷ []));
-        changes = ap (λ (l : List Change). l ++ changed op reply) a.changes ∙ (sym (changes-more (events_of by.number a.more) event) ∙ ap changes_in (sym own));
+        changes = ap (λ (l : List ExpiryChange). l ++ changed op reply) a.changes ∙ (sym (changes-more (events_of by.number a.more) event) ∙ ap changes_in (sym own));
       }
 
   -- an operation that changes nothing
-  at-still : (c : List Change) (op : Op) (reply : Reply) (journal new : List Event) → changed op reply ≡ [] → IsAt c journal → Makes by op reply journal new → IsAt c new
-  at-still c op reply journal new none a m = at-same (c ++ changed op reply) c new (ap (λ (l : List Change). c ++ l) none ∙ append-nil c) (at-step c op reply journal new a m)
+  at-still : (c : List ExpiryChange) (op : Op) (reply : Reply) (journal new : List Event) → changed op reply ≡ [] → IsAt c journal → Makes by op reply journal new → IsAt c new
+  at-still c op reply journal new none a m = at-same (c ++ changed op reply) c new (ap (λ (l : List ExpiryChange). c ++ l) none ∙ append-nil c) (at-step c op reply journal new a m)
 
   abbrev Told : Play Expired → List Event → Type 0
   Told p h = PlayLeads (ChangesTold by.number start) by p h
@@ -125,7 +125,7 @@ module _ (by : Caller) (start : List Event) where
   ends cases result h a = record { more = a.more; since = a.since; told = a.changes }
 
   -- a call of what makes gets alone
-  calls : {B : Type 0} (c : List Change) (f : Result B Refusal → Play Expired) → ((a : Result B Refusal) (h : List Event) → IsAt c h → Told (f a) h) → (p : Prog (Result B Refusal)) (h : List Event) → Reads p → IsAt c h → Told (call p f) h
+  calls : {B : Type 0} (c : List ExpiryChange) (f : Result B Refusal → Play Expired) → ((a : Result B Refusal) (h : List Event) → IsAt c h → Told (f a) h) → (p : Prog (Result B Refusal)) (h : List Event) → Reads p → IsAt c h → Told (call p f) h
   unfolding PlayLeads Reads
   calls c f g (Done a) h r n = g a h n
   calls c f g (Ask_next (Get key) k) h r n = (
@@ -153,14 +153,14 @@ module _ (by : Caller) (start : List Event) where
     unfolding PlayLeads
     dropped version h a = (
       case-told (Err R.NoMemory) h (no-change h a),
-      λ reply new m. case-told (drop_told reply) new (at-same (changes_told cases ++ changed (drop_op ref version) reply) (changes_told cases ++ change_by ref (drop_told reply)) new (ap (λ (l : List Change). changes_told cases ++ l) (drop-same by ref version reply h new m)) (at-step (changes_told cases) (drop_op ref version) reply h new a m)),
+      λ reply new m. case-told (drop_told reply) new (at-same (changes_told cases ++ changed (drop_op ref version) reply) (changes_told cases ++ change_by ref (drop_told reply)) new (ap (λ (l : List ExpiryChange). changes_told cases ++ l) (drop-same by ref version reply h new m)) (at-step (changes_told cases) (drop_op ref version) reply h new a m)),
     )
 
     was-cut : (id : Id12) (version : Version) (bytes : List ℕ) (h : List Event) → IsAt (changes_told cases) h → Told (decide ref (after_case ref cases next) (Cuts id version bytes)) h
     unfolding PlayLeads
     was-cut id version bytes h a = (
       case-told (Err R.NoMemory) h (no-change h a),
-      λ reply new m. case-told (cut_told id reply) new (at-same (changes_told cases ++ changed (PutOver (Snapshot id) bytes version Expire) reply) (changes_told cases ++ change_by ref (cut_told id reply)) new (ap (λ (l : List Change). changes_told cases ++ l) (cut-same ref id reply)) (at-step (changes_told cases) (PutOver (Snapshot id) bytes version Expire) reply h new a m)),
+      λ reply new m. case-told (cut_told id reply) new (at-same (changes_told cases ++ changed (PutOver (Snapshot id) bytes version Expire) reply) (changes_told cases ++ change_by ref (cut_told id reply)) new (ap (λ (l : List ExpiryChange). changes_told cases ++ l) (cut-same ref id reply)) (at-step (changes_told cases) (PutOver (Snapshot id) bytes version Expire) reply h new a m)),
     )
 
     looked : (answer : Result Decision Refusal) (h : List Event) → IsAt (changes_told cases) h → Told (after_look ref (after_case ref cases next) answer) h

@@ -46,7 +46,7 @@ use Rattle.expiry.specs.declared.look.Decision.{Decision}
 use Rattle.expiry.specs.declared.look.Decision.TheVariants.{Gone, Keeps, Drops, Cuts}
 use Rattle.expiry.specs.Verdicts.{ToKeep, ToCut, ToDrop, is_older, cut_of, expiry_of, may_drop, cut_file}
 use Rattle.expiry.specs.Looks.{if_there, ref_seen, Seen, seen_at, snapshot_seen, next_of, cut_bytes, cuts, look_below, most_below, look_head, look_named, look_program}
-use Rattle.expiry.specs.Telling.{WasRead, EndsAt, WasJudged, IsCutOf, HasFailed, Cause}
+use Rattle.expiry.specs.Telling.{WasRead, HistoryEndsAt, WasJudged, IsCutOf, HasFailed, Cause}
 use Rattle.expiry.proofs.Lasting.{Lasts, lasts-makes}
 use Rattle.expiry.proofs.Playing.{Reads, done-reads, choice-reads, answer-reads}
 use Rattle.expiry.proofs.Judging.{Follows, next-is, next-none, drops-so, stays-so, cuts-here, cuts-later, cut-written, longer, no-longer}
@@ -196,7 +196,7 @@ module _ (laws : SnapshotLaw) (by : Caller) (t : Terms) (ref : Key) (start : Lis
   was-read head version below last left h w = record { id = w.id; read = w.read; chain = w.chain; alone = w.alone; apart = w.apart }
 
   -- it ends here
-  ends-here : (head : SnapshotFile) (version : Version) (below : List SnapshotFile) (last : Seen) (left : ℕ) (h : List Event) → Walks head version below last left h → next_of last.file ≡ None → EndsAt head last.file.parent
+  ends-here : (head : SnapshotFile) (version : Version) (below : List SnapshotFile) (last : Seen) (left : ℕ) (h : List Event) → Walks head version below last left h → next_of last.file ≡ None → HistoryEndsAt head last.file.parent
   ends-here head version below last left h w e = elim (next-none last.file e) [
     | inl initial ↦ inl (w.top initial)
     | inr end ↦ inr end

@@ -1,5 +1,7 @@
--- The program that reads of one ref what an expiry has to know, and answers what is to be done. It makes gets alone. (Own.)
-use Rattle.std.specs.Prelude.{ℕ, zero, suc, nat_lt, ◌&&◌, if◌then◌else◌, List, length, Option, Some, None, Result, Ok, Err}
+-- The program that reads of one ref what an expiry has to know, and answers what is to be
+-- done. It makes gets alone. (Own.)
+use Rattle.std.specs.Prelude.{ℕ, zero, suc, nat_lt, ◌&&◌, if◌then◌else◌, List}
+use Rattle.std.specs.Prelude.{length, Option, Some, None, Result, Ok, Err}
 use Rattle.flat_tables.specs.declared.header.Kind.TheVariants as kinds
 use Rattle.flat_tables.specs.File.{file_limit}
 use Rattle.ice_ids.specs.Text.{initial_id, same_id12}
@@ -16,7 +18,8 @@ use Rattle.object_store.specs.declared.events.Got.TheVariants.{Found, Absent}
 use Rattle.object_store.specs.declared.events.Reply.{Reply}
 use Rattle.object_store.specs.declared.events.Reply.TheVariants.{Got}
 use Rattle.store_api.specs.declared.machines.Refusal.{Refusal}
-use Rattle.store_api.specs.declared.machines.Refusal.TheVariants.{Missing, BadFile, TooDeep, TooLarge, StoreFault, NoMemory}
+use Rattle.store_api.specs.declared.machines.Refusal.TheVariants.{Missing, BadFile, TooDeep}
+use Rattle.store_api.specs.declared.machines.Refusal.TheVariants.{TooLarge, StoreFault, NoMemory}
 use Rattle.store_api.specs.Program.{Done, Ask}
 use Rattle.store_api.specs.Running.{Program, on_answer}
 use Rattle.repo_read.specs.declared.answers.Resolved.{Resolved}
@@ -38,7 +41,8 @@ if_there (Err why) = Err why
 
 -- the snapshot that a ref names and the version at which it does, if the ref is there
 abbrev pub ref_seen : Key → Reply → Result (Option Resolved) Refusal
-ref_seen key (Got (Found bytes version now)) = if_there (resolved_at version (at_key key (read_ref bytes)))
+ref_seen key (Got (Found bytes version now)) =
+    if_there (resolved_at version (at_key key (read_ref bytes)))
 ref_seen key (Got (Absent now)) = Ok None
 ref_seen key _ = Err StoreFault
 
@@ -47,7 +51,8 @@ seen_at version (Ok file) = Ok (record { file = file; version = version })
 seen_at version (Err why) = Err why
 
 abbrev pub snapshot_seen : Id12 → Reply → Result Seen Refusal
-snapshot_seen id (Got (Found bytes version now)) = seen_at version (at_key (Snapshot id) (read_snapshot id bytes))
+snapshot_seen id (Got (Found bytes version now)) =
+    seen_at version (at_key (Snapshot id) (read_snapshot id bytes))
 snapshot_seen id (Got (Absent now)) = Err (Missing (Snapshot id))
 snapshot_seen id _ = Err StoreFault
 
@@ -65,14 +70,18 @@ abbrev pub cut_bytes : SnapshotFile → List ℕ
 cut_bytes s = snapshot_bytes (cut_file s)
 
 abbrev pub cuts : Seen → Result Decision Refusal
-cuts seen = if nat_lt file_limit (length (cut_bytes seen.file)) then Err (TooLarge kinds.Snapshot) else Ok (Cuts seen.file.id seen.version (cut_bytes seen.file))
+cuts seen =
+    if nat_lt file_limit (length (cut_bytes seen.file)) then Err (TooLarge kinds.Snapshot)
+    else Ok (Cuts seen.file.id seen.version (cut_bytes seen.file))
 
--- The walk from a snapshot that was read: to the first parent that is older, or to the end; no more than so many more are read.
+-- The walk from a snapshot that was read: to the first parent that is older, or to the end; no
+-- more than so many more are read.
 unfoldable pub look_below : (left cutoff : ℕ) → (last : Seen) → Option Id12 → Program Decision
 look_below left cutoff last None = Done (Ok Keeps)
 look_below zero cutoff last (Some id) = Done (Err TooDeep)
 look_below (suc left) cutoff last (Some id) = asks (Get (Snapshot id)) (snapshot_seen id) (λ seen.
-    if is_older cutoff seen.file then Done (cuts last) else look_below left cutoff seen (next_of seen.file))
+    if is_older cutoff seen.file then Done (cuts last)
+    else look_below left cutoff seen (next_of seen.file))
 
 -- ---- from the ref on
 -- own: the snapshots below the first one that are read at most: one fewer than a walk reads
@@ -81,11 +90,13 @@ most_below = 65535
 
 abbrev pub look_head : Terms → (ref : Key) → Version → Seen → Program Decision
 look_head t ref version head =
-    if may_drop t ref && is_older t.cutoff head.file then Done (Ok (Drops version)) else look_below most_below t.cutoff head (next_of head.file)
+    if may_drop t ref && is_older t.cutoff head.file then Done (Ok (Drops version))
+    else look_below most_below t.cutoff head (next_of head.file)
 
 abbrev pub look_named : Terms → (ref : Key) → Option Resolved → Program Decision
 look_named t ref None = Done (Ok Gone)
-look_named t ref (Some named) = asks (Get (Snapshot named.id)) (snapshot_seen named.id) (look_head t ref named.version)
+look_named t ref (Some named) =
+    asks (Get (Snapshot named.id)) (snapshot_seen named.id) (look_head t ref named.version)
 
 -- Gets the ref, and the snapshots down from the one that it names.
 abbrev pub look_program : Terms → (ref : Key) → Program Decision

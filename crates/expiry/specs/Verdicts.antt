@@ -1,11 +1,13 @@
--- What an expiry makes of a ref, by the history of its snapshots. (Icechunk's manual, "Expiring snapshots"; that a ref is dropped where the snapshot that
--- it names is older, and that `main` never is, is own.)
+-- What an expiry makes of a ref, by the history of its snapshots. (Icechunk's manual,
+-- "Expiring snapshots"; that a ref is dropped where the snapshot that it names is older, and
+-- that `main` never is, is own.)
 use Rattle.std.specs.Prelude.{ℕ, nat_lt, Bool, false, ◌&&◌, not, if◌then◌else◌, List, [], ◌∷◌, Some}
 use Rattle.ice_base.specs.Names.{main_name, same_name}
 use Rattle.ice_ids.specs.Text.{initial_id}
 use Rattle.snapshot_file.specs.declared.snapshot.SnapshotFile.{SnapshotFile}
 use Rattle.object_store.specs.declared.keys.Key.{Key}
-use Rattle.object_store.specs.declared.keys.Key.TheVariants.{Snapshot, Manifest, Txn, Chunk, Branch, Tag, Tombstone, Lease}
+use Rattle.object_store.specs.declared.keys.Key.TheVariants.{Snapshot, Manifest, Txn, Chunk}
+use Rattle.object_store.specs.declared.keys.Key.TheVariants.{Branch, Tag, Tombstone, Lease}
 use Rattle.expiry.specs.declared.terms.Terms.{Terms}
 
 -- its history stays as it is; or it is to end at this snapshot; or the ref is to be dropped
@@ -23,9 +25,12 @@ abbrev pub cut_of : (cutoff : ℕ) → (last : SnapshotFile) → (below : List S
 cut_of cutoff last [] = ToKeep
 cut_of cutoff last (s ∷ ss) = if is_older cutoff s then ToCut last else cut_of cutoff s ss
 
--- A ref is dropped where it may be and the snapshot that it names is older; otherwise its history is cut, if one below is older.
-abbrev pub expiry_of : (cutoff : ℕ) → (drops : Bool) → (head : SnapshotFile) → (below : List SnapshotFile) → Verdict
-expiry_of cutoff drops head below = if drops && is_older cutoff head then ToDrop else cut_of cutoff head below
+-- A ref is dropped where it may be and the snapshot that it names is older; otherwise its history
+-- is cut, if one below is older.
+abbrev pub expiry_of : (cutoff : ℕ) → (drops : Bool) → (head : SnapshotFile)
+    → (below : List SnapshotFile) → Verdict
+expiry_of cutoff drops head below =
+    if drops && is_older cutoff head then ToDrop else cut_of cutoff head below
 
 -- whether this ref may be dropped; the branch `main` never
 abbrev pub may_drop : Terms → Key → Bool

@@ -1,7 +1,7 @@
 //! What replies to the operations of an expiry tell.
 
 ghost use Rattle.std.specs.Prelude.{◌≡◌, IfErr};
-ghost use Rattle.repo_read.specs.Answers.{Answers};
+ghost use Rattle.repo_read.specs.Answers.{Answers, AnswersOutright};
 ghost use Rattle.expiry.specs.Looks.{ref_seen, snapshot_seen, MayRefuseLook};
 ghost use Rattle.expiry.specs.Plays.{drop_told, cut_told};
 ghost use Rattle.expiry.specs.inside.Looking.{version_in};
@@ -15,10 +15,11 @@ use repo_read::{Resolved, snapshot_told};
 use std::alloc::Global;
 use store_api::{GoneAt, Got, Key, Listed, New, Over, Refusal, Reply, StoreFault, Version};
 
-/// The snapshot that a ref names and the version at which it does, if the ref is there. Refusals: `BadFile`, `StoreFault`,
-/// `NoMemory`.
+/// The snapshot that a ref names and the version at which it does, if the ref is there. Refusals: `BadFile`, `StoreFault`, or,
+/// where there are bytes, `NoMemory`.
 pub(crate) fn ref_seen(alloc: Global, key: &Key, reply: Reply) -> Result<Option<Resolved>, Refusal>
     ensures told { Answers (ref_seen key.now reply) result }
+    ensures outright { AnswersOutright reply (ref_seen key.now reply) result }
     ensures listed { IfErr result MayRefuseLook }
 {
     let Reply::Got(got) = reply else {
@@ -52,9 +53,11 @@ fn version_in(reply: &Reply) -> Version
     }
 }
 
-/// A snapshot and the version at which it was read. Refusals: `Missing`, `BadFile`, `StoreFault`, `NoMemory`.
+/// A snapshot and the version at which it was read. Refusals: `Missing`, `BadFile`, `StoreFault`, or, where there are bytes,
+/// `NoMemory`.
 pub(crate) fn snapshot_seen(alloc: Global, id: Id12, reply: Reply) -> Result<Seen, Refusal>
     ensures told { Answers (snapshot_seen id reply) result }
+    ensures outright { AnswersOutright reply (snapshot_seen id reply) result }
     ensures listed { IfErr result MayRefuseLook }
 {
     let version = version_in(&reply);

@@ -1,5 +1,6 @@
--- The payloads of files, and ids, indices and bytes in their tables: how ids and indices are read, and the layout of all
--- three. (Icechunk specification version 1: ids are structs of bytes, indices are vectors of u32.)
+-- The payloads of files, and ids, indices and bytes in their tables: how ids and indices are
+-- read, and the layout of all three. (Icechunk specification version 1: ids are structs of
+-- bytes, indices are vectors of u32.)
 use Rattle.std.specs.Prelude.{◌≡◌, ◌<◌, ◌^◌, ℕ, List, length, map, Result, Ok}
 use Rattle.std.specs.List.{flat_map, AllByRecursion}
 use Rattle.std.specs.Int.{w32, from_le_bytes, to_le_bytes}

@@ -166,6 +166,9 @@ payload_length b = length-append (to_le_bytes w32 (b.place 4)) (b.bytes 4)
 pub exact : (told e len : ℕ) → told ≡ capped (e + len) → e + len ≤ 268435417 → told ≡ e + len
 exact told e len is fits = omega arith
 
+pub exactly : (told end : ℕ) → told ≡ capped end → end ≤ 268435417 → told ≡ end
+exactly told end is fits = omega arith
+
 -- ---- a table is its head and what is beneath it
 
 pub parts_head_length : (ps : List Part) (e : ℕ) → AllByRecursion IsSized ps → e + length (table_head ps e) ≡ table_place (length ps) e + fields_end ps 4

@@ -1,7 +1,8 @@
 -- Own: a table that has a vector of tables, for a writer that holds one of these at a time.
 use Rattle.std.specs.Prelude.{ℕ, ◌+◌, ◌-◌, ◌*◌, ◌≡◌, ◌≤◌, List, [], ◌∷◌, ◌++◌, length, All}
 use Rattle.std.specs.Int.{w32, to_le_bytes}
-use Rattle.flat_tables.specs.Layout.{Part, Block, gap_to, offset_to, tables_block, fields_end, all_beneath, table_place}
+use Rattle.flat_tables.specs.Layout.{Part, Block, gap_to, offset_to, tables_block}
+use Rattle.flat_tables.specs.Layout.{fields_end, all_beneath, table_place}
 
 -- fields, then a vector of tables, and then fields
 abbrev pub framed : List Part → List Block → List Part → List Part
@@ -28,8 +29,11 @@ vector_begin ps qs e = frame_end ps qs e + length (all_beneath ps (frame_end ps 
 abbrev pub first_table : ℕ → ℕ → ℕ
 first_table n v = v + gap_to 4 (v + 4) + 4 + 4 * n
 
--- what its writer has to know, where it is appended at e: where each table stands, and where the vector with these ends
-pub record AreEnds (ps : List Part) (bs : List Block) (qs : List Part) (e : ℕ) (each : List ℕ) (end : ℕ) : Type 0 where
+-- what its writer has to know, where it is appended at e: where each table stands, and
+-- where the vector with these ends
+pub record AreEnds (ps : List Part) (bs : List Block) (qs : List Part) (e : ℕ) (each : List ℕ)
+    (end : ℕ) : Type 0 where
   pub places_are : each ≡ places bs (first_table (length bs) (vector_begin ps qs e))
-  pub within : All (λ place. (first_table (length bs) (vector_begin ps qs e) ≤ place) × (place ≤ end)) each
+  pub within : All
+      (λ place. (first_table (length bs) (vector_begin ps qs e) ≤ place) × (place ≤ end)) each
   pub end_is : end ≡ vector_begin ps qs e + length ((tables_block bs).bytes (vector_begin ps qs e))

@@ -1,10 +1,12 @@
 -- Own: the header of a file, 39 bytes, after the manner of the Icechunk specification, version 1.
-use Rattle.std.specs.Prelude.{ℕ, List, [], ◌∷◌, ◌++◌, length, slice_index, replicate, Result, Ok, Err, nat_lt, nat_eq, ◌==◌, if◌then◌else◌}
+use Rattle.std.specs.Prelude.{ℕ, List, [], ◌∷◌, ◌++◌, length, slice_index, replicate}
+use Rattle.std.specs.Prelude.{Result, Ok, Err, nat_lt, nat_eq, ◌==◌, if◌then◌else◌}
 use Rattle.std.specs.List.{starts_with}
 use Rattle.flat_tables.specs.declared.header.Kind.{Kind}
 use Rattle.flat_tables.specs.declared.header.Kind.TheVariants.{Snapshot, Manifest, Log}
 use Rattle.flat_tables.specs.declared.header.HeaderFault.{HeaderFault}
-use Rattle.flat_tables.specs.declared.header.HeaderFault.TheVariants.{Short, Magic, Version, FileType, Compression}
+use Rattle.flat_tables.specs.declared.header.HeaderFault.TheVariants.{Short, Magic, Version}
+use Rattle.flat_tables.specs.declared.header.HeaderFault.TheVariants.{FileType, Compression}
 
 -- the bytes that each file begins with
 abbrev pub magic : List ℕ
@@ -24,7 +26,9 @@ unfoldable pub header : Kind → List ℕ
 header kind = magic ++ implementation ++ (1 ∷ type_of kind ∷ 0 ∷ [])
 
 abbrev pub kind_by : ℕ → Result Kind HeaderFault
-kind_by n = if n == 1 then Ok Snapshot else if n == 2 then Ok Manifest else if n == 4 then Ok Log else Err (FileType n)
+kind_by n =
+    if n == 1 then Ok Snapshot
+    else if n == 2 then Ok Manifest else if n == 4 then Ok Log else Err (FileType n)
 
 abbrev pub uncompressed : ℕ → Result Kind HeaderFault → Result Kind HeaderFault
 uncompressed n (Ok kind) = if n == 0 then Ok kind else Err (Compression n)
@@ -35,5 +39,7 @@ unfoldable pub kind_of : List ℕ → Result Kind HeaderFault
 kind_of file =
     if nat_lt (length file) 39 then Err Short else
     if starts_with nat_eq file magic then
-    (if slice_index file 36 == 1 then uncompressed (slice_index file 38) (kind_by (slice_index file 37)) else Err (Version (slice_index file 36)))
+    (if slice_index file 36 == 1
+    then uncompressed (slice_index file 38) (kind_by (slice_index file 37))
+    else Err (Version (slice_index file 36)))
     else Err Magic

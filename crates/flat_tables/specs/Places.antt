@@ -1,6 +1,8 @@
--- Where the parts of a payload lie, as the FlatBuffers internals have them: each is found by an offset
--- from an earlier one. Places are counted from the payload's first byte, and sums don't wrap.
-use Rattle.std.specs.Prelude.{ℕ, zero, suc, ◌+◌, ◌-◌, ◌*◌, ◌^◌, List, [], ◌∷◌, length, take, drop, Option, Some, None, Result, Ok, Err, nat_lt, ◌==◌, if◌then◌else◌}
+-- Where the parts of a payload lie, as the FlatBuffers internals have them: each is
+-- found by an offset from an earlier one. Places are counted from the payload's
+-- first byte, and sums don't wrap.
+use Rattle.std.specs.Prelude.{ℕ, zero, suc, ◌+◌, ◌-◌, ◌*◌, ◌^◌, List, [], ◌∷◌, length, take, drop}
+use Rattle.std.specs.Prelude.{Option, Some, None, Result, Ok, Err, nat_lt, ◌==◌, if◌then◌else◌}
 use Rattle.std.specs.Int.{Width, w8, w16, w32, w64, byte_len, from_le_bytes}
 use Rattle.std.specs.Str.{is_utf8}
 use Rattle.flat_tables.specs.declared.fault.FlatFault.{FlatFault}
@@ -9,11 +11,14 @@ use Rattle.flat_tables.specs.Step.{◌>>=◌, on_some}
 
 -- own: the n bytes from p on, or p as the fault where they don't lie in the payload
 abbrev pub span : List ℕ → ℕ → ℕ → Result (List ℕ) FlatFault
-span bytes p n = if nat_lt (length bytes) (p + n) then Err (Outside p) else Ok (take n (drop p bytes))
+span bytes p n =
+    if nat_lt (length bytes) (p + n) then Err (Outside p) else Ok (take n (drop p bytes))
 
 -- scalars are little-endian
 abbrev pub number_at : Width → List ℕ → ℕ → Result ℕ FlatFault
-number_at w bytes p = if nat_lt (length bytes) (p + byte_len w) then Err (Outside p) else Ok (from_le_bytes w (take (byte_len w) (drop p bytes)))
+number_at w bytes p =
+    if nat_lt (length bytes) (p + byte_len w) then Err (Outside p)
+    else Ok (from_le_bytes w (take (byte_len w) (drop p bytes)))
 
 -- a table in a payload: its place, the place and the size of its vtable, and its own size
 pub record TableIn : Type 0 where
@@ -32,9 +37,12 @@ pub record VectorIn : Type 0 where
 
 -- the place that lies before t by a signed number of 32 bits
 abbrev pub back_from : ℕ → ℕ → Result ℕ FlatFault
-back_from t s = if nat_lt s (2 ^ 31) then (if nat_lt t s then Err (Outside t) else Ok (t - s)) else Ok (t + (2 ^ 32 - s))
+back_from t s =
+    if nat_lt s (2 ^ 31) then (if nat_lt t s then Err (Outside t) else Ok (t - s))
+    else Ok (t + (2 ^ 32 - s))
 
--- a table begins with the signed offset back to its vtable, and that with two sizes: its own and the table's
+-- a table begins with the signed offset back to its vtable, and that with two
+-- sizes: its own and the table's
 unfoldable pub table_at : List ℕ → ℕ → Result TableIn FlatFault
 table_at bytes t = do
   s ← number_at w32 bytes t
@@ -60,12 +68,13 @@ root_of bytes = do
   u ← number_at w32 bytes 0
   table_at bytes u
 
--- the place of the field of n bytes in slot k, where it isn't absent: its entry in the vtable is its offset from the
--- table, and it is absent where the entry is 0 or lies past the vtable
+-- the place of the field of n bytes in slot k, where it isn't absent: its entry in the vtable is
+-- its offset from the table, and it is absent where the entry is 0 or lies past the vtable
 unfoldable pub field_of : TableIn → ℕ → ℕ → Result (Option ℕ) FlatFault
 field_of t k n = if nat_lt t.entries (6 + 2 * k) then Ok None else do
   f ← number_at w16 t.bytes (t.vtable + (4 + 2 * k))
-  if f == 0 then Ok None else if nat_lt t.size (f + n) then Err (Outside (t.at + f)) else Ok (Some (t.at + f))
+  if f == 0 then Ok None
+      else if nat_lt t.size (f + n) then Err (Outside (t.at + f)) else Ok (Some (t.at + f))
 
 -- a struct lies in the table itself
 unfoldable pub struct_of : TableIn → ℕ → ℕ → Result (Option (List ℕ)) FlatFault
@@ -100,7 +109,8 @@ vector_of t k size = do
   a ← field_of t k 4
   on_some a (λ p. target_of t.bytes p >>= vector_at t.bytes size)
 
--- a string is a vector of bytes and one byte more; own: that byte isn't looked at, and the others are UTF-8
+-- a string is a vector of bytes and one byte more; own: that byte isn't
+-- looked at, and the others are UTF-8
 unfoldable pub text_at : List ℕ → ℕ → Result (List ℕ) FlatFault
 text_at bytes q = do
   v ← vector_at bytes 1 q

@@ -1,16 +1,33 @@
-ghost use Rattle.std.specs.Prelude.{◌≡◌, ◌+◌, ◌*◌, ◌<◌, ◌≤◌, length, map, max, IsTrue, All};
+ghost use Rattle.std.specs.Prelude.{◌≡◌, ◌+◌, ◌*◌, ◌<◌, ◌≤◌, length, map, max, IsTrue, IfSome, All, option_map};
 ghost use Rattle.flat_tables.specs.Layout.{gap_to, fields_end, all_beneath};
-ghost use Rattle.flat_tables.specs.Trees.{layout, part_of, is_writable, is_writable_slot, capped, HasShape};
+ghost use Rattle.flat_tables.specs.Trees.{layout, part_of, is_writable, is_writable_slot, capped, HasShape, behind_field, behind_table};
 
 use crate::flat::{Flat, Slot};
 
 /// How many bytes lead from `at` to a multiple of `align`.
-pub fn gap_to(align: usize, at: usize) -> usize
+#[inline(always)]
+fn gap(align: usize, at: usize) -> usize
     requires { 0 < align }
     ensures gap { result ≡ gap_to align at }
     ensures less { result < align }
 {
     (align - at % align) % align
+}
+
+/// How many bytes lead from `at` to a multiple of `align`. The alignments that files have are told apart, since a division by a
+/// number that is known beforehand is none for the machine.
+pub fn gap_to(align: usize, at: usize) -> usize
+    requires { 0 < align }
+    ensures gap { result ≡ gap_to align at }
+    ensures less { result < align }
+{
+    match align {
+        1 => gap(1, at),
+        2 => gap(2, at),
+        4 => gap(4, at),
+        8 => gap(8, at),
+        _ => gap(align, at),
+    }
 }
 
 /// The alignment and the size of a field, where it is there.
@@ -110,6 +127,29 @@ pub fn all_end(slots: &[Slot], from: usize) -> usize
         end = beneath_end(slot, end);
     }
     end
+}
+
+/// Where all ends that is beneath the field before this one, if there was one. So what is beneath a table's last field isn't measured
+/// for it.
+pub fn behind_field(before: Option<&Slot>, from: usize) -> usize
+    requires { IfSome before (λ s. IsTrue (is_writable_slot s.now)) }
+    ensures { result ≡ capped (behind_field (option_map (λ s. s.now) before.entry) from) }
+{
+    match before {
+        None => from,
+        Some(slot) => beneath_end(slot, from),
+    }
+}
+
+/// Where the table before this one ends with all beneath it, if there was one.
+pub fn behind_table(before: Option<&Flat>, from: usize) -> usize
+    requires { IfSome before (λ f. IsTrue (is_writable f.now)) }
+    ensures { result ≡ capped (behind_table (option_map (λ f. f.now) before.entry) from) }
+{
+    match before {
+        None => from,
+        Some(flat) => table_end(flat, from),
+    }
 }
 
 /// The place of a table that is appended at `from`.

@@ -4,7 +4,9 @@ ghost use Rattle.flat_tables.specs.Layout.{Part, payload, zeros, fields_end, ent
 ghost use Rattle.flat_tables.specs.Trees.{layout, part_of, is_writable, is_writable_slot, capped};
 ghost use Rattle.flat_tables.specs.File.{Writes};
 
-use crate::ends::{beneath_end, gap_to, place_of, shape, slots_end, table_end, vector_align};
+use crate::ends::{
+    behind_field, behind_table, gap_to, place_of, shape, slots_end, table_end, vector_align,
+};
 use crate::fault::WriteFault;
 use crate::flat::{Flat, Slot};
 use crate::header::{FILE_LIMIT, HEADER};
@@ -136,9 +138,11 @@ pub fn put_fields(
 {
     let mut end = from;
     let mut next = below;
+    let mut last: Option<&Slot> = None;
     for slot in slots {
+        next = behind_field(last, next);
         end = put_part(out, slot, place, end, next)?;
-        next = beneath_end(slot, next);
+        last = Some(slot);
     }
     Ok(())
 }
@@ -279,9 +283,11 @@ fn put_offsets_from(
 {
     let mut at = first;
     let mut next = below;
+    let mut last: Option<&Flat> = None;
     for flat in flats {
+        next = behind_table(last, next);
         push_u32(out, place_of(flat, next) - at)?;
-        next = table_end(flat, next);
+        last = Some(flat);
         at += 4;
     }
     Ok(())

@@ -4,10 +4,10 @@ use Rattle.std.specs.Prelude.{◌==◌, slice_get, codes}
 use Rattle.std.specs.List.{before_first, position_or_len}
 use Rattle.std.proofs.lemmas.Option.{same_Some}
 use Rattle.std.proofs.lemmas.List.{append_cancel_left}
-use Rattle.folder.specs.Files.{IsName, IsBehind, HasName}
+use Rattle.folder.specs.Files.{IsFileName, IsBehind, HasName}
 use Rattle.folder.specs.Memory.{AddsName}
 
-slash_at : (name rest : List ℕ) → IsName name → IsBehind rest → position_or_len (λ byte. byte == 47) (name ++ rest) ≡ length name
+slash_at : (name rest : List ℕ) → IsFileName name → IsBehind rest → position_or_len (λ byte. byte == 47) (name ++ rest) ≡ length name
 slash_at [] [] plain behind = refl
 slash_at [] (byte ∷ rest) plain behind = ap (λ t. cond (not t) (1 + position_or_len (λ byte. byte == 47) rest) 0) (eq-eqb byte 47 behind)
 slash_at (byte ∷ name) rest plain behind =
@@ -18,7 +18,7 @@ taken : (xs ys : List ℕ) → take (length xs) (xs ++ ys) ≡ xs
 taken [] ys = refl
 taken (x ∷ xs) ys = ap (λ zs. x ∷ zs) (taken xs ys)
 
-pub first-name : (name rest : List ℕ) → IsName name → IsBehind rest → before_first (λ byte. byte == 47) (name ++ rest) ≡ name
+pub first-name : (name rest : List ℕ) → IsFileName name → IsBehind rest → before_first (λ byte. byte == 47) (name ++ rest) ≡ name
 first-name name rest plain behind = ap (λ n. take n (name ++ rest)) (slash_at name rest plain behind) ∙ taken name rest
 
 -- ---- a path that leads to or beneath a name in a folder
@@ -29,7 +29,7 @@ inside-is path folder inside name rest is leads =
 pub leads-nowhere : (path folder inside name rest : List ℕ) → path ≡ folder ++ inside → ((more : List ℕ) → inside ≢ codes "/" ++ more) → path ≡ folder ++ codes "/" ++ name ++ rest → ⊥
 leads-nowhere path folder inside name rest is none leads = none (name ++ rest) (inside-is path folder inside name rest is leads)
 
-pub leads-to : (path folder inside left name rest first : List ℕ) → path ≡ folder ++ inside → inside ≡ codes "/" ++ left → first ≡ before_first (λ byte. byte == 47) left → IsName name → IsBehind rest → path ≡ folder ++ codes "/" ++ name ++ rest → first ≡ name
+pub leads-to : (path folder inside left name rest first : List ℕ) → path ≡ folder ++ inside → inside ≡ codes "/" ++ left → first ≡ before_first (λ byte. byte == 47) left → IsFileName name → IsBehind rest → path ≡ folder ++ codes "/" ++ name ++ rest → first ≡ name
 leads-to path folder inside left name rest first is behind begins plain ends leads =
     let same : left ≡ name ++ rest = append_cancel_left (codes "/") left (name ++ rest) (sym behind ∙ inside-is path folder inside name rest is leads) in
     begins ∙ ap (λ (bytes : List ℕ). before_first (λ byte. byte == 47) bytes) same ∙ first-name name rest plain ends
@@ -54,7 +54,7 @@ stays xs ys name has = record { place = has.place; here = get-append xs ys has.p
 pub has-last : (xs : List (List ℕ)) (name : List ℕ) → HasName (xs ++ name ∷ []) name
 has-last xs name = record { place = length xs; here = get-last xs name }
 
-pub adds-name : (path folder name : List ℕ) (old new : List (List ℕ)) → new ≡ old ++ name ∷ [] → ((n rest : List ℕ) → IsName n → IsBehind rest → path ≡ folder ++ codes "/" ++ n ++ rest → Some name ≡ Some n) → AddsName path folder old new
+pub adds-name : (path folder name : List ℕ) (old new : List (List ℕ)) → new ≡ old ++ name ∷ [] → ((n rest : List ℕ) → IsFileName n → IsBehind rest → path ≡ folder ++ codes "/" ++ n ++ rest → Some name ≡ Some n) → AddsName path folder old new
 adds-name path folder name old new is leads = record {
   stay = λ n has. subst (λ names. HasName names n) (sym is) (stays old (name ∷ []) n has);
   added = λ n rest plain ends same.

@@ -1,7 +1,9 @@
 //! Why a call on files failed.
 
-ghost use Rattle.std.specs.Prelude.{◌≡◌, Ok, IfOk};
+ghost use Rattle.std.specs.Prelude.{◌≡◌, Some, Ok, IfOk};
+ghost use Rattle.std.specs.IoError.{raw_os_error};
 ghost use Rattle.folder.specs.declared.faults.FileFault.TheVariants as FileFault;
+ghost use Rattle.folder.specs.Told.{cause_by, call_text, cause_text, trouble_text};
 
 use std::alloc::AllocError;
 use std::io::{Error, ErrorKind};
@@ -35,6 +37,8 @@ pub enum Call {
 }
 
 impl fmt::Display for Call {
+    ghost output = { λ call. Some (call_text call) };
+
     fn fmt<W: fmt::Write>(&self, f: &mut fmt::Formatter<W>) -> fmt::Result {
         f.write_str(match self {
             Call::Look => "look at",
@@ -78,6 +82,8 @@ pub enum Cause {
 }
 
 impl fmt::Display for Cause {
+    ghost output = { cause_text };
+
     fn fmt<W: fmt::Write>(&self, f: &mut fmt::Formatter<W>) -> fmt::Result {
         match self {
             Cause::System(code) => write!(f, "{}", Error::from_raw_os_error(*code)),
@@ -104,6 +110,8 @@ pub struct Trouble {
 }
 
 impl fmt::Display for Trouble {
+    ghost output = { trouble_text };
+
     fn fmt<W: fmt::Write>(&self, f: &mut fmt::Formatter<W>) -> fmt::Result {
         let Trouble { call, cause } = *self;
         write!(f, "{call}: {cause}")
@@ -143,7 +151,9 @@ pub fn failed(call: Call, cause: Cause) -> Trouble
 }
 
 /// A call that the system refused.
-pub fn refused(call: Call, error: &Error) -> Trouble {
+pub fn refused(call: Call, error: &Error) -> Trouble
+    ensures { result ≡ record { call = call; cause = cause_by (raw_os_error error.now) } }
+{
     match error.raw_os_error() {
         Some(code) => failed(call, Cause::System(code)),
         None => failed(call, Cause::Unnamed),

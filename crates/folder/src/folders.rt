@@ -1,7 +1,8 @@
 //! What is asked of folders and files.
 
-ghost use Rattle.std.specs.Prelude.{◌≡◌, ◌≤◌, ◌++◌, ℕ, Bool, List, [], Option, None, IsTrue, length, map, string_bytes, IfOk, OnOk, IfSome, MatchOption};
-ghost use Rattle.folder.specs.Files.{Stored, HasBytes, IsSeen, IsFileSeen, ReadsOn, SameBut, SameButTwo, PlacesNew, PlacesOver, Removes, TellsNames, HoldsNone, NoneLoose, LooseIn, TellsLoose, NoLooser, LooserAt, LooserAtTwo, LoosensNew, LoosensGone, Firms, Leaves, IsKept, IsKeptBut, IsChanged, IsPlaced, IsNew};
+ghost use Rattle.std.specs.Prelude.{◌≡◌, ◌≢◌, ◌≤◌, ◌++◌, ℕ, Bool, List, [], Option, None, IsTrue, length, map, string_bytes, IfOk, IfErr, OnOk, IfSome, MatchOption};
+ghost use Rattle.folder.specs.declared.faults.Cause.TheVariants as Cause;
+ghost use Rattle.folder.specs.Files.{StoredFile, HasBytes, IsSeen, IsFileSeen, ReadsOn, SameBut, SameButTwo, PlacesNew, PlacesOver, Removes, TellsNames, HoldsNone, NoneLoose, LooseIn, TellsLoose, NoLooser, LooserAt, LooserAtTwo, LoosensNew, LoosensGone, Firms, Leaves, IsKept, IsKeptBut, IsChanged, IsPlaced, IsNew};
 
 use crate::{FileFault, Seen, Trouble};
 use std::alloc::Global;
@@ -22,7 +23,7 @@ pub trait Folder {
     ghost tells: { Bool };
 
     /// The plain file at a path, if one is there. At the path of a draft nothing is said.
-    ghost files: { Self → List ℕ → Option Stored };
+    ghost files: { Self → List ℕ → Option StoredFile };
 
     /// What of an open file is still to be read.
     ghost rest: { Self.Reading → List ℕ };
@@ -45,7 +46,7 @@ pub trait Folder {
 
     /// What a loss of power may leave at a path, at this moment or a later one up to now, in the midst of a call too. At the
     /// path of a draft nothing is said.
-    ghost left: { Self → ℕ → List ℕ → Option Stored → Type 0 };
+    ghost left: { Self → ℕ → List ℕ → Option StoredFile → Type 0 };
 
     /// What lies at a path, if anything does: a link itself, and not what it leads to. Where that is no folder, no name beneath
     /// it is loose.
@@ -63,12 +64,13 @@ pub trait Folder {
         ensures { IsTrue tells
             → IfOk result (λ file. HasBytes (rest file) (files self.now path.now)) };
 
-    /// Reads on in a file: some bytes, and none only at its end.
+    /// Reads on in a file: some bytes, and none only at its end. How long the file is isn't looked at.
     fn read(&self, file: &mut Self::Reading, piece: &mut [u8]) -> Result<usize, Trouble>
         ensures within { IfOk result (λ count. count ≤ length piece.old) }
         ensures read { IsTrue tells
             → IfOk result (λ count. ReadsOn (length piece.old) count piece.new (rest file.old)
-            (rest file.new)) };
+            (rest file.new)) }
+        ensures unmeasured { IsTrue tells → IfErr result (λ trouble. trouble.cause ≢ Cause.TooLong) };
 
     /// The names in a folder, or none where no folder is. Some may be told that are no longer there.
     fn list(&self, alloc: Global, path: &str) -> Result<Option<Vec<String>>, FileFault>
@@ -181,5 +183,5 @@ pub trait Folder {
             (left self.new) };
 
     /// A loss of power now leaves what lies there, but for loose names.
-    ghost keeps: { (s : Self) (p : List ℕ) (f : Option Stored) → IsTrue Self.tells → (Self.loose s p → ⊥) → Self.left s (Self.moment s) p f → f ≡ Self.files s p };
+    ghost keeps: { (s : Self) (p : List ℕ) (f : Option StoredFile) → IsTrue Self.tells → (Self.loose s p → ⊥) → Self.left s (Self.moment s) p f → f ≡ Self.files s p };
 }

@@ -2,7 +2,7 @@
 
 ghost use Rattle.std.specs.Prelude.{◌≢◌, ◌==◌, ◌+◌, ◌-◌, ◌^◌, min, take, MatchOption, codes, List, ℕ, map, ◌≡◌, ◌≤◌, true, length, drop, option_copied, Some, IfOk, IfSome, OnErr, OnOk, ◌++◌, ◌∷◌, [], string_bytes};
 ghost use Rattle.std.proofs.Common.{ap, ◌∙◌};
-ghost use Rattle.folder.specs.Files.{Leaves, IsKept, IsSeen, IsFileSeen, HasBytes, SameBut, IsName, IsBehind, HasName};
+ghost use Rattle.folder.specs.Files.{Leaves, IsKept, IsSeen, IsFileSeen, HasBytes, SameBut, IsFileName, IsBehind, HasName};
 ghost use Rattle.std.specs.List.{before_first};
 ghost use Rattle.folder.specs.Memory.{content_at, file_at, content_of, file_of, ChangedTo, AddsName, Lay};
 ghost use Rattle.std.proofs.lemmas.List.{take_all};
@@ -187,7 +187,7 @@ fn first_name(inside: &str) -> &str
 
 /// The name in a folder at which or beneath which a path leads, if one is.
 fn name_in<'a>(path: &'a str, folder: &str) -> Option<&'a str>
-    ensures { (name rest : List ℕ) → IsName name → IsBehind rest
+    ensures { (name rest : List ℕ) → IsFileName name → IsBehind rest
         → path.now ≡ folder.now ++ codes "/" ++ name ++ rest → option_copied result ≡ Some name }
 {
     Some(first_name(after(after(path, folder)?, "/")?))

@@ -1,7 +1,7 @@
 //! Folders of the system. What it holds can't be told by a contract: this file alone is trusted to do what [`Folder`] says,
 //! call by call.
 
-ghost use Rattle.std.specs.Prelude.{◌≡◌, false, None, [], IfOk, string_bytes};
+ghost use Rattle.std.specs.Prelude.{◌≡◌, ◌+◌, ◌-◌, ◌*◌, ◌/◌, ◌^◌, ℕ, pos, min, false, None, [], IfOk, string_bytes};
 ghost use Rattle.folder.specs.System.{root_of};
 
 use crate::faults::{done, done_in_memory, refused};
@@ -43,7 +43,10 @@ fn is_missing(kind: ErrorKind) -> bool {
 }
 
 /// A time in microseconds since 1970, or 0 before.
-fn micros(seconds: i64, nanos: i64) -> u64 {
+fn micros(seconds: i64, nanos: i64) -> u64
+    ensures { (s n : ℕ) → seconds ≡ pos s → nanos ≡ pos n
+        → result ≡ min (s * 1000000 + n / 1000) (2 ^ 64 - 1) }
+{
     let seconds = u64::try_from(seconds).unwrap_or(0);
     let nanos = u64::try_from(nanos).unwrap_or(0);
     seconds

@@ -1,5 +1,6 @@
 -- What `cells` makes is the script of its box (own).
-use Rattle.std.specs.Prelude.{◌≡◌, ◌≢◌, ℕ, ◌≤◌, ◌==◌, ◌&&◌, not, List, [], ◌∷◌, None, Result, Ok, Err, IsTrue, length, codes}
+use Rattle.std.specs.Prelude.{◌≡◌, ◌≢◌, ℕ, ◌≤◌, ◌==◌, ◌&&◌, not, List, [], ◌∷◌}
+use Rattle.std.specs.Prelude.{None, Result, Ok, Err, IsTrue, length, codes}
 use Rattle.std.specs.List.{list_all}
 use Rattle.std.specs.Str.{is_utf8}
 use Rattle.repo_read.specs.declared.resolving.At.TheVariants as at
@@ -25,20 +26,32 @@ pub record IsWord (word : Text) : Type 0 where
 
 -- one task, which reads at a branch, with these lines
 abbrev pub reading : Text → List Line → Script
-reading branch body = record { tasks = record { name = codes "cells"; line = 1; head = head.Session (access.Read (at.Branch branch)); body = body } ∷ []; turns = None }
+reading branch body = record {
+  tasks = record {
+    name = codes "cells";
+    line = 1;
+    head = head.Session (access.Read (at.Branch branch));
+    body = body;
+  } ∷ [];
+  turns = None;
+}
 
 -- the numbers of a box of cells are shown
 abbrev pub box_line : CellBox → Line
 box_line place = record { number = 2; call = call.Read (read.Cells place) }
 
 -- the script by its branch and its box, where both can be read
-abbrev pub box_script : Result Text ScriptKind → Result CellBox ScriptKind → Result Script (ℕ × ScriptKind)
+abbrev pub box_script : Result Text ScriptKind → Result CellBox ScriptKind
+    → Result Script (ℕ × ScriptKind)
 box_script (Ok branch) (Ok place) = Ok (reading branch (box_line place ∷ []))
 box_script (Ok branch) (Err kind) = Err (2, kind)
 box_script (Err kind) place = Err (1, kind)
 
--- the text stands for the script of the branch and the box that its words stand for, or for the fault of these
+-- the text stands for the script of the branch and the box that its words stand
+-- for, or for the fault of these
 abbrev pub BoxesLaw : Type 0
 BoxesLaw =
-    (branch path from to : Text) → IsWord branch → IsWord path → IsWord from → IsWord to → length (cells_text branch path from to) ≤ most_bytes
-    → script_of (cells_text branch path from to) ≡ box_script (ref_name_of branch) (box_of path from to)
+    (branch path from to : Text) → IsWord branch → IsWord path → IsWord from → IsWord to
+    → length (cells_text branch path from to) ≤ most_bytes
+    → script_of (cells_text branch path from to)
+    ≡ box_script (ref_name_of branch) (box_of path from to)

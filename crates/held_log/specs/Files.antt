@@ -13,14 +13,24 @@ abbrev pub log_or_empty : Result TxnFile FileFault → TxnFile
 log_or_empty (Ok log) = log
 log_or_empty (Err fault) = record {
   id = record { 0 = [] };
-  lists = record { new_groups = []; new_arrays = []; deleted_groups = []; deleted_arrays = []; updated_arrays = []; updated_groups = []; updated_chunks = [] };
+  lists = record {
+    new_groups = [];
+    new_arrays = [];
+    deleted_groups = [];
+    deleted_arrays = [];
+    updated_arrays = [];
+    updated_groups = [];
+    updated_chunks = [];
+  };
 }
 
 -- the root table of a file that stands for a log
 abbrev pub RootOf : List ℕ → TableIn → Type 0
-RootOf file table = (payload : List ℕ) × (payload_in kinds.Log file ≡ Ok payload) × (root_of payload ≡ Ok table)
+RootOf file table =
+    (payload : List ℕ) × (payload_in kinds.Log file ≡ Ok payload) × (root_of payload ≡ Ok table)
 
--- a file was held as the log that it stands for, or came back with the fault that it has, which is no want of memory
-abbrev pub Holds : List ℕ → Result TxnFile (List ℕ × FileFault) → Type 0
-Holds file (Ok log) = txn_of file ≡ Ok log
-Holds file (Err back) = (back.0 ≡ file) × (txn_of file ≡ Err back.1) × (back.1 ≢ NoMemory)
+-- a file was held as the log that it stands for, or came back with the fault that it
+-- has, which is no want of memory
+abbrev pub IsHeldAs : List ℕ → Result TxnFile (List ℕ × FileFault) → Type 0
+IsHeldAs file (Ok log) = txn_of file ≡ Ok log
+IsHeldAs file (Err back) = (back.0 ≡ file) × (txn_of file ≡ Err back.1) × (back.1 ≢ NoMemory)

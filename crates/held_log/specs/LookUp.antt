@@ -7,4 +7,5 @@ use Rattle.zarr_tree.specs.declared.lists.ArrayChunks.{ArrayChunks}
 
 -- those of each row with the array's id
 abbrev pub chunks_listed : List ArrayChunks → Id8 → List (List ℕ)
-chunks_listed arrays id = flat_map (λ array. if same_id8 array.node id then array.chunks else []) arrays
+chunks_listed arrays id =
+    flat_map (λ array. if same_id8 array.node id then array.chunks else []) arrays

@@ -2,7 +2,7 @@ ghost use Rattle.std.specs.Prelude.{◌≡◌, IsOk};
 ghost use Rattle.zarr_tree.specs.Touched.{IsOrdered};
 ghost use Rattle.txn_file.specs.Logs.{log_of, txn_of};
 ghost use Rattle.held_manifest.specs.Files.{Checks};
-ghost use Rattle.held_log.specs.Files.{Holds, RootOf, log_or_empty};
+ghost use Rattle.held_log.specs.Files.{IsHeldAs, RootOf, log_or_empty};
 
 use crate::lists::{HeldLists, held_lists, lists_of};
 use file_fields::{id12_of, payload_in};
@@ -53,7 +53,7 @@ fn check_file(file: &[u8]) -> Result<(), FileFault>
 /// (Icechunk specification version 1, "Transaction log"; the order of faults is own.)
 #[tactic(auto, using(crate::proofs::Parts::log_ok, crate::proofs::NoMemory::never_memory))]
 pub fn hold(file: Bytes) -> Result<HeldLog, (Bytes, FileFault)>
-    ensures { Holds file result }
+    ensures { IsHeldAs file result }
 {
     match check_file(file.as_slice()) {
         Ok(()) => Ok(HeldLog { file }),

@@ -20,9 +20,12 @@ manifest_or_empty (Err fault) = record { id = record { 0 = [] }; arrays = [] }
 
 -- the root table of a file that stands for a manifest
 abbrev pub RootOf : List ℕ → TableIn → Type 0
-RootOf file table = (payload : List ℕ) × (payload_in kinds.Manifest file ≡ Ok payload) × (root_of payload ≡ Ok table)
+RootOf file table =
+    (payload : List ℕ) × (payload_in kinds.Manifest file ≡ Ok payload)
+    × (root_of payload ≡ Ok table)
 
--- a file was held as the manifest that it stands for, or came back with the fault that it has, which is no want of memory
-abbrev pub Holds : List ℕ → Result ManifestFile (List ℕ × FileFault) → Type 0
-Holds file (Ok manifest) = manifest_of file ≡ Ok manifest
-Holds file (Err back) = (back.0 ≡ file) × (manifest_of file ≡ Err back.1) × (back.1 ≢ NoMemory)
+-- a file was held as the manifest that it stands for, or came back with the fault that it
+-- has, which is no want of memory
+abbrev pub IsHeldAs : List ℕ → Result ManifestFile (List ℕ × FileFault) → Type 0
+IsHeldAs file (Ok manifest) = manifest_of file ≡ Ok manifest
+IsHeldAs file (Err back) = (back.0 ≡ file) × (manifest_of file ≡ Err back.1) × (back.1 ≢ NoMemory)

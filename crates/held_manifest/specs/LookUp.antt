@@ -1,5 +1,8 @@
--- What a list of chunks has at an index, a list of arrays for a node, and a node's list of manifests for a chunk.
-use Rattle.std.specs.Prelude.{ℕ, Bool, true, false, ◌&&◌, ◌==◌, nat_le, nat_lt, if◌then◌else◌, List, [], ◌∷◌, length, Option, None, option_map, option_and_then, find, bytes_eq}
+-- What a list of chunks has at an index, a list of arrays for a node, and a node's
+-- list of manifests for a chunk.
+use Rattle.std.specs.Prelude.{ℕ, Bool, true, false, ◌&&◌, ◌==◌, nat_le, nat_lt}
+use Rattle.std.specs.Prelude.{if◌then◌else◌, List, [], ◌∷◌, length, Option, None}
+use Rattle.std.specs.Prelude.{option_map, option_and_then, find, bytes_eq}
 use Rattle.std.specs.Option.{option_or}
 use Rattle.ice_ids.specs.declared.Id8.{Id8}
 use Rattle.ice_ids.specs.Text.{same_id8}
@@ -34,11 +37,13 @@ Listed = List (ℕ × ℕ) × ManifestFile
 abbrev pub entry_seen : Id8 → List ℕ → Listed → Option Place
 entry_seen node index m = if within m.0 index then entry_of node index m.1 else None
 
--- the chunk is where the first manifest has it whose extents contain the index and which has an entry for node and index
+-- the chunk is where the first manifest has it whose extents contain the index and which
+-- has an entry for node and index
 abbrev pub look_up : Id8 → List ℕ → List Listed → Option Place
 look_up node index [] = None
 look_up node index (m ∷ ms) = option_or (entry_seen node index m) (look_up node index ms)
 
 -- an index of another rank than the array's stands for nothing
 abbrev pub chunk_place : ℕ → Id8 → List ℕ → List Listed → Option Place
-chunk_place rank node index manifests = if length index == rank then look_up node index manifests else None
+chunk_place rank node index manifests =
+    if length index == rank then look_up node index manifests else None

@@ -1,5 +1,6 @@
 -- The objects that the entries of a manifest name.
-use Rattle.std.specs.Prelude.{◌≡◌, ℕ, List, [], ◌∷◌, ◌++◌, drop, Option, None, Some, MatchOption, Contains, flat_map, filter_map}
+use Rattle.std.specs.Prelude.{◌≡◌, ℕ, List, [], ◌∷◌, ◌++◌, drop, Option, None, Some}
+use Rattle.std.specs.Prelude.{MatchOption, Contains, flat_map, filter_map}
 use Rattle.ice_ids.specs.declared.Id12.{Id12}
 use Rattle.manifest_file.specs.declared.manifest.Place.{Place}
 use Rattle.manifest_file.specs.declared.manifest.Place.TheVariants.{Inline, Object}
@@ -13,7 +14,8 @@ abbrev pub object_of : Place → Option Id12
 object_of (Inline bytes) = None
 object_of (Object id offset size) = Some id
 
--- the objects that entries name, in the order of the entries: one for each entry whose bytes are in an object
+-- the objects that entries name, in the order of the entries: one for each
+-- entry whose bytes are in an object
 abbrev pub objects_of_refs : List ChunkRef → List Id12
 objects_of_refs refs = filter_map (λ r. object_of r.place) refs
 
@@ -46,7 +48,11 @@ objects_from arrays array chunk = objects_behind chunk (drop array arrays)
 
 -- the first of them, and where those behind it begin
 abbrev pub FindsRef : List ChunkRef → ℕ → Option (Id12 × ℕ) → Type 0
-FindsRef refs from found = MatchOption found (objects_of_refs (drop from refs) ≡ []) (λ f. objects_of_refs (drop from refs) ≡ f.0 ∷ objects_of_refs (drop f.1 refs))
+FindsRef refs from found =
+    MatchOption found (objects_of_refs (drop from refs) ≡ [])
+    (λ f. objects_of_refs (drop from refs) ≡ f.0 ∷ objects_of_refs (drop f.1 refs))
 
 abbrev pub Finds : List ArrayRefs → (array chunk : ℕ) → Option Found → Type 0
-Finds arrays array chunk found = MatchOption found (objects_from arrays array chunk ≡ []) (λ f. objects_from arrays array chunk ≡ f.id ∷ objects_from arrays f.array f.chunk)
+Finds arrays array chunk found =
+    MatchOption found (objects_from arrays array chunk ≡ [])
+    (λ f. objects_from arrays array chunk ≡ f.id ∷ objects_from arrays f.array f.chunk)

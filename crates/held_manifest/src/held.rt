@@ -1,6 +1,6 @@
 ghost use Rattle.std.specs.Prelude.{◌≡◌, IsOk, option_map};
 ghost use Rattle.manifest_file.specs.Manifests.{payload_of, manifest_of};
-ghost use Rattle.held_manifest.specs.Files.{Checks, Holds, RootOf, manifest_or_empty};
+ghost use Rattle.held_manifest.specs.Files.{Checks, IsHeldAs, RootOf, manifest_or_empty};
 ghost use Rattle.held_manifest.specs.Places.{place_seen};
 ghost use Rattle.held_manifest.specs.LookUp.{refs_of_node, entry_of};
 ghost use Rattle.held_manifest.specs.Objects.{objects_of};
@@ -60,7 +60,7 @@ fn check_file(file: &[u8]) -> Result<(), FileFault>
 /// Holds the file of a manifest, or gives it back with the fault that reading it would answer. It takes no memory.
 #[tactic(auto, using(crate::proofs::Parts::manifest_ok, crate::proofs::NoMemory::never_memory))]
 pub fn hold(file: Bytes) -> Result<HeldManifest, (Bytes, FileFault)>
-    ensures { Holds file result }
+    ensures { IsHeldAs file result }
 {
     match check_file(file.as_slice()) {
         Ok(()) => Ok(HeldManifest { file }),

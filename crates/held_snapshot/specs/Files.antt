@@ -1,4 +1,5 @@
--- The snapshot of a file that stands for one. (Icechunk specification version 1, "Snapshot"; the words are own.)
+-- The snapshot of a file that stands for one. (Icechunk specification version 1,
+-- "Snapshot"; the words are own.)
 use Rattle.std.specs.Prelude.{◌≡◌, ◌≢◌, ℕ, List, [], None, Result, Ok, Err}
 use Rattle.flat_tables.specs.declared.fault.FileFault.{FileFault}
 use Rattle.flat_tables.specs.declared.fault.FileFault.TheVariants.{NoMemory}
@@ -32,7 +33,8 @@ pub record IsTableOf (t : TableIn) (s : SnapshotFile) : Type 0 where
   pub props : properties_of t ≡ Ok s.props
   pub files : files_of t ≡ Ok s.manifest_files
 
--- the slots behind the nodes were tested: they have these manifest files, or this is their first fault
+-- the slots behind the nodes were tested: they have these manifest
+-- files, or this is their first fault
 abbrev pub Rest : Type 0
 Rest = ℕ × (List ℕ × (List (List ℕ × List ℕ) × List ManifestInfo))
 
@@ -40,7 +42,8 @@ abbrev pub ChecksRest : Result (List ManifestInfo) FileFault → Result Rest Fil
 ChecksRest (Ok files) read = (rest : Rest) × (read ≡ Ok rest) × (rest.1.1.1 ≡ files)
 ChecksRest (Err fault) read = read ≡ Err fault
 
--- a file was held as the snapshot that it stands for, or came back with the fault that it has, which is no want of memory
-abbrev pub Holds : List ℕ → Result SnapshotFile (List ℕ × FileFault) → Type 0
-Holds file (Ok snapshot) = snapshot_of file ≡ Ok snapshot
-Holds file (Err back) = (back.0 ≡ file) × (snapshot_of file ≡ Err back.1) × (back.1 ≢ NoMemory)
+-- a file was held as the snapshot that it stands for, or came back with the fault that it
+-- has, which is no want of memory
+abbrev pub IsHeldAs : List ℕ → Result SnapshotFile (List ℕ × FileFault) → Type 0
+IsHeldAs file (Ok snapshot) = snapshot_of file ≡ Ok snapshot
+IsHeldAs file (Err back) = (back.0 ≡ file) × (snapshot_of file ≡ Err back.1) × (back.1 ≢ NoMemory)

@@ -1,5 +1,5 @@
--- What the kind of an array has, the row at a path, and a manifest by its id. (Icechunk specification version 1, "Snapshot"; the
--- words are own.)
+-- What the kind of an array has, the row at a path, and a manifest by its id. (Icechunk
+-- specification version 1, "Snapshot"; the words are own.)
 use Rattle.std.specs.Prelude.{ℕ, Bool, true, false, List, position, find, Option, None, Some}
 use Rattle.std.specs.List.{list_any}
 use Rattle.ice_ids.specs.declared.Id12.{Id12}

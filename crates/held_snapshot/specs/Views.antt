@@ -1,4 +1,5 @@
--- What the parts of a snapshot that are read in place stand for. (Icechunk specification version 1, "Snapshot"; the words are own.)
+-- What the parts of a snapshot that are read in place stand for. (Icechunk specification version 1,
+-- "Snapshot"; the words are own.)
 use Rattle.std.specs.Prelude.{ℕ, List, [], map, Option, None, Some, Result, Ok, Err}
 use Rattle.flat_tables.specs.declared.fault.FileFault.{FileFault}
 use Rattle.flat_tables.specs.Places.{TableIn, VectorIn, items_of}
@@ -36,7 +37,12 @@ kind_seen (Some t) = kind_or_group (array_of t)
 -- the row that was read, and an empty one where there is a fault
 abbrev pub row_or_empty : Result NodeRow FileFault → NodeRow
 row_or_empty (Ok row) = row
-row_or_empty (Err fault) = record { id = record { 0 = [] }; path = []; user_data = []; kind = Group }
+row_or_empty (Err fault) = record {
+  id = record { 0 = [] };
+  path = [];
+  user_data = [];
+  kind = Group;
+}
 
 -- node number `at`, by its table
 abbrev pub row_seen : ℕ → TableIn → NodeRow

@@ -2,7 +2,7 @@ ghost use Rattle.std.specs.Prelude.{◌≡◌, Ok};
 ghost use Rattle.snapshot_file.specs.Snapshots.{parent_of, rest_of, payload_of, snapshot_of};
 ghost use Rattle.snapshot_file.specs.Layout.{IsWritable};
 ghost use Rattle.held_manifest.specs.Files.{Checks};
-ghost use Rattle.held_snapshot.specs.Files.{ChecksRest, Holds, IsTableOf};
+ghost use Rattle.held_snapshot.specs.Files.{ChecksRest, IsHeldAs, IsTableOf};
 
 use crate::files::{HeldFiles, files_of, held_files};
 use crate::listed_files::first_unlisted;
@@ -83,7 +83,7 @@ fn check_file(file: &[u8]) -> Result<(), FileFault>
 /// (Icechunk specification version 1, "Snapshot"; the order of faults is own.)
 #[tactic(auto, using(crate::proofs::Parts::snapshot_ok, crate::proofs::NoMemory::never_memory))]
 pub fn hold(file: Bytes) -> Result<HeldSnapshot, (Bytes, FileFault)>
-    ensures { Holds file result }
+    ensures { IsHeldAs file result }
 {
     match check_file(file.as_slice()) {
         Ok(()) => Ok(HeldSnapshot { file }),

@@ -4,8 +4,8 @@ use Rattle.ice_ids.specs.declared.Id12.{Id12}
 use Rattle.zarr_tree.specs.Trees.{Tree}
 use Rattle.object_store.specs.declared.events.Event.{Event}
 
--- The snapshot that the bytes of a ref name, the tree of a snapshot that was put, and the parent that a snapshot named when
--- it was first put.
+-- The snapshot that the bytes of a ref name, the tree of a snapshot that was put, and the parent
+-- that a snapshot named when it was first put.
 pub record Files : Type 0 where
   pub ref : List ℕ → Option Id12
   pub tree : Id12 → Option Tree

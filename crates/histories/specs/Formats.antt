@@ -10,9 +10,14 @@ use Rattle.store_api.specs.Journal.{snap_made}
 use Rattle.histories.specs.Repository.{Change}
 use Rattle.histories.specs.Files.{Files}
 
--- refs and the parents of snapshots as their files say them, where `trees` gives the tree of each snapshot
+-- refs and the parents of snapshots as their files say them, where `trees`
+-- gives the tree of each snapshot
 abbrev pub files_by : (Id12 → Option Tree) → Files
-files_by trees = record { ref = ref_of; tree = trees; parent = λ journal id. option_and_then (λ (s : SnapshotFile). s.parent) (snap_made journal id) }
+files_by trees = record {
+  ref = ref_of;
+  tree = trees;
+  parent = λ journal id. option_and_then (λ (s : SnapshotFile). s.parent) (snap_made journal id);
+}
 
 -- what the changes given for each position make of a tree
 abbrev pub applied : (ℕ → Changes) → ℕ → Change

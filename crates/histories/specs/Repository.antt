@@ -64,7 +64,8 @@ tree_at (Some e) = e.tree
 abbrev pub appended : (Id12 → Option Tree) → ℕ → Call → Option Entry → Option Entry
 appended trees n Open l = l
 appended trees n (Create id) l = Some (record { version = n; id = id; tree = trees id })
-appended trees n (Commit old id c) l = Some (record { version = n; id = id; tree = option_map c (tree_at l) })
+appended trees n (Commit old id c) l =
+    Some (record { version = n; id = id; tree = option_map c (tree_at l) })
 appended trees n (Reset old id) l = Some (record { version = n; id = id; tree = trees id })
 appended trees n (Drop old) l = None
 

@@ -4,7 +4,8 @@ use Rattle.ice_ids.specs.declared.Id12.{Id12}
 use Rattle.zarr_tree.specs.Trees.{Tree}
 use Rattle.histories.specs.Repository.{Entry}
 
--- A tag was never made; or it stands as it was made; or it was dropped, and keeps its name from being used again.
+-- A tag was never made; or it stands as it was made; or it was dropped, and keeps
+-- its name from being used again.
 pub data TagState : Type 0 where
   Absent : TagState
   Stands : Entry → TagState
@@ -40,7 +41,8 @@ tag_answer Drop Absent = NoRef
 tag_answer Drop (Stands e) = Done
 tag_answer Drop (Gone e) = NoRef
 
--- what a call that is done at version n makes of the tag, where `trees` gives the tree of each snapshot
+-- what a call that is done at version n makes of the tag, where `trees`
+-- gives the tree of each snapshot
 abbrev pub tag_made : (Id12 → Option Tree) → ℕ → TagCall → TagState → TagState
 tag_made trees n (Make id) s = Stands (record { version = n; id = id; tree = trees id })
 tag_made trees n Drop (Stands e) = Gone e
@@ -54,7 +56,8 @@ where_done _ new s = s
 abbrev pub tag_called : (Id12 → Option Tree) → ℕ → TagCall → TagState → TagState
 tag_called trees n call s = where_done (tag_answer call s) (tag_made trees n call s) s
 
--- A tag never moves: one that stands keeps standing as it was made, or is dropped, and then it stays so.
+-- A tag never moves: one that stands keeps standing as it was made, or is
+-- dropped, and then it stays so.
 abbrev pub GoesOnAs : TagState → TagState → Type 0
 GoesOnAs Absent s = Unit {0}
 GoesOnAs (Stands e) s = (s ≡ Stands e) ⊎ (s ≡ Gone e)

@@ -21,7 +21,7 @@ use Rattle.reach.specs.Own.{HasPut}
 use Rattle.collecting.specs.Marks as marks
 use Rattle.collecting.specs.Walks.{Walk, Marked, Doomed}
 use Rattle.history_laws.specs.Refs.{Names, IsLeased}
-use Rattle.history_laws.specs.Collections.{Collection, walk_at, DoomedBy, Owes, IsListed, IsCollected}
+use Rattle.history_laws.specs.Collections.{Collection, walk_at, DoomedBy, OwesUntil, IsListed, IsCollected}
 use Rattle.history_laws.specs.Laws.{RefsKept, DoomsStay, BasesKept, LeasesKept, PassedNone, PutsKept}
 use Rattle.history_laws.proofs.Past.{Has, Past, past-of, initial-parent, initial-names}
 use Rattle.history_laws.proofs.Down.{stop, bottom, next}
@@ -220,8 +220,8 @@ module _ (initial : InitialLaw) (snaps : SnapshotLaw) (manifests : ManifestLaw) 
     firsts : Each IsFirst [] c.start × Each IsFirst c.start h.more
     firsts = Each-back IsFirst [] c.start h.more (subst (λ (j : List Event). Each IsFirst [] j) h.is h.once)
 
-    owed : Each (Owes c) c.start h.more × Each (Owes c) (c.start ++ h.more) later
-    owed = Each-back (Owes c) c.start h.more later h.owes
+    owed : Each (OwesUntil c) c.start h.more × Each (OwesUntil c) (c.start ++ h.more) later
+    owed = Each-back (OwesUntil c) c.start h.more later h.owes
 
     begins : Behind c c.start
     begins = ([], sym (append-nil c.start))
@@ -248,8 +248,8 @@ module _ (initial : InitialLaw) (snaps : SnapshotLaw) (manifests : ManifestLaw) 
     behind : Behind c journal
     behind = (h.more, h.is)
 
-    owes-later : Each (Owes c) journal later
-    owes-later = subst (λ (j : List Event). Each (Owes c) j later) (sym h.is) owed.1
+    owes-later : Each (OwesUntil c) journal later
+    owes-later = subst (λ (j : List Event). Each (OwesUntil c) j later) (sym h.is) owed.1
 
     pub at-last : (key : Key) → DoomedBy c (journal ++ later) key → DoomedBy c journal key
     at-last key d = settled-along c journal later behind owes-later settled key d
@@ -315,7 +315,7 @@ module _ (initial : InitialLaw) (snaps : SnapshotLaw) (manifests : ManifestLaw) 
       | inr safe ↦ ref-safe initial c.cutoff journal h.listed.once (last_time journal) (walk_at c journal) kept.told (closes c journal later h.listed) (DoomedBy c (journal ++ later)) (at-last c journal later h.listed) id key safe r d
     ]
 
-    pub lease-kept : (id base : Id12) (since : List Event) (key : Key) → IsLeased id base since journal → PassedNone c journal base → Reaches journal base key → DoomedBy c (journal ++ later) key → ⊥
+    pub lease-kept : (id base : Id12) (since : List Event) (key : Key) → IsLeased id base since journal → PassedNone (walk_at c journal) journal base → Reaches journal base key → DoomedBy c (journal ++ later) key → ⊥
     lease-kept id base since key l present r d = elim (kept.leases id base (since, l)) [
       | inl left ↦ none-left (Lease id) (subst (λ (o : Option (List Key)). IsLeft o (Lease id)) (closes c journal later h.listed).leases_read left)
       | inr safe ↦ lease-safe initial c.cutoff journal h.listed.once (last_time journal) (walk_at c journal) kept.told (closes c journal later h.listed) (DoomedBy c (journal ++ later)) (at-last c journal later h.listed) base key present safe r d

@@ -36,7 +36,7 @@ use Rattle.store_api.proofs.Puts.{snapshot-polite}
 use Rattle.collecting.specs.Marks.{MarkedBy, first, first_log, root, log, parent, manifest, chunk, FoundBy, named, below}
 use Rattle.collecting.specs.Walks.{Walk, fresh, IsClosed, Doomed, branch, May, with_root, told}
 use Rattle.history_laws.specs.Refs.{Points, makes_branch, makes_tag, resets, Commits, Removes}
-use Rattle.history_laws.specs.Collections.{Collection, walk_at, Owes, DoomedBy, CommitsOwn, IsQuiet, IsCollected, Collects, OnlyCollects, CommitsLater, LeavesLost, AreCollected}
+use Rattle.history_laws.specs.Collections.{Collection, walk_at, OwesUntil, DoomedBy, CommitsOwn, IsQuiet, IsCollected, Collects, OnlyCollects, CommitsLater, LeavesLost, AreCollected}
 use Rattle.history_laws.specs.Laws.{TookOne}
 use Rattle.history_laws.proofs.Steps.{RemovesAt, step-one}
 use Rattle.history_laws.proofs.Walking.{Behind, its-own, walk-start}
@@ -537,7 +537,7 @@ module _ (initial : InitialLaw) (i : List ℕ) (i_is : i ≡ initial_bytes) (r :
   doomed : Doomed 5 (done all 4) (Chunk garbage)
   doomed = record { whole = refl; entry = entry (Chunk garbage) s2; listed = (1, omega arith, refl); key_is = refl; object = tt; old = omega arith; unmarked = unmarked }
 
-  owed : (journal : List Event) (x : Event) (w : Walk) → walk_at c journal ≡ w → May 5 w x.op → Owes c journal x
+  owed : (journal : List Event) (x : Event) (w : Walk) → walk_at c journal ≡ w → May 5 w x.op → OwesUntil c journal x
   owed journal x w is may e within = subst (λ (u : Walk). May 5 u x.op) (sym is) may
 
   -- a fact of each of its events
@@ -545,8 +545,8 @@ module _ (initial : InitialLaw) (i : List ℕ) (i_is : i ≡ initial_bytes) (r :
   unfolding Each
   by-each P a1 a2 a3 a4 a5 a6 a7 a8 a9 = (a1, (a2, (a3, (a4, (a5, (a6, (a7, (a8, (a9, tt)))))))))
 
-  owes : Each (Owes c) start its
-  owes = by-each (Owes c)
+  owes : Each (OwesUntil c) start its
+  owes = by-each (OwesUntil c)
       (owed start l1 fresh (walk-start c) (refl, refl))
       (owed j4 g1 (knows (Some (Branch main_name ∷ [])) None None [] 0 []) k4 (refl, branch ([], refl)))
       (owed j5 l2 (knows (Some []) None None (initial_id ∷ []) 0 []) k5 (refl, (refl, refl)))

@@ -24,7 +24,7 @@ use Rattle.reach.specs.Own.{HasPut}
 use Rattle.reach.proofs.Holding.{named-put}
 use Rattle.collecting.specs.Walks.{IsObject, MayDo}
 use Rattle.history_laws.specs.Refs.{Names, RefReaches, Removes}
-use Rattle.history_laws.specs.Collections.{Collection, walk_at, DoomedBy, Owes, IsPreceded, Collects, CommitsOwn, IsQuiet, IsCollected, OnlyCollects, IsLost, CommitsLater, LeavesLost, NoneMissing, AreCollected}
+use Rattle.history_laws.specs.Collections.{Collection, walk_at, DoomedBy, OwesUntil, IsPreceded, Collects, CommitsOwn, IsQuiet, IsCollected, OnlyCollects, IsLost, CommitsLater, LeavesLost, NoneMissing, AreCollected}
 use Rattle.history_laws.specs.Laws.{Stands, ReachedFound, BasesFound, OwnFound, ReachedPut, NoneMissed, NothingMissing}
 use Rattle.history_laws.proofs.Steps.{IsRemoval, step-one}
 use Rattle.history_laws.proofs.Past.{look, Known, Has, Past, past-of, past-one, initial-parent, initial-names}
@@ -96,30 +96,30 @@ pub record IsPart (collections : List Collection) (old journal rest : List Event
   pub added : List Event
   pub is : journal ≡ old ++ added
   pub only : Each (OnlyCollects collections) old added
-  pub owes : (c : Collection) → Contains collections c → (before : List Event) (event : Event) (after : List Event) → journal ≡ before ++ event ∷ after → Behind c before → Owes c before event
+  pub owes : (c : Collection) → Contains collections c → (before : List Event) (event : Event) (after : List Event) → journal ≡ before ++ event ∷ after → Behind c before → OwesUntil c before event
   pub collected : (c : Collection) → Contains collections c → Behind c journal → IsSettled (walk_at c journal) → IsCollected c journal rest
   pub none_missing : NoneMissing old
   pub own : Each (CommitsLater old) old added
   pub quiet : Each (LeavesLost old) old added
 
 module _ (collections : List Collection) (old whole : List Event) (h : AreCollected collections old whole) (journal rest : List Event) (whole_is : whole ≡ journal ++ rest) where
-  owes-at : (c : Collection) → Contains collections c → (before : List Event) (event : Event) (after : List Event) → whole ≡ before ++ event ∷ after → Behind c before → Owes c before event
+  owes-at : (c : Collection) → Contains collections c → (before : List Event) (event : Event) (after : List Event) → whole ≡ before ++ event ∷ after → Behind c before → OwesUntil c before event
   owes-at c among before event after is behind =
       let k : Collects c whole = h.collects c among in
       let same : c.start ++ k.more ≡ c.start ++ (behind.0 ++ event ∷ after) = sym k.is ∙ (is ∙ (ap (λ (j : List Event). j ++ event ∷ after) behind.1 ∙ append_assoc c.start behind.0 (event ∷ after))) in
-      let owes : Each (Owes c) c.start (behind.0 ++ event ∷ after) = subst (λ (xs : List Event). Each (Owes c) c.start xs) (same-end c.start k.more (behind.0 ++ event ∷ after) same) k.owes in
-      subst (λ (j : List Event). Owes c j event) (sym behind.1) (Each-at (Owes c) c.start behind.0 event after owes)
+      let owes : Each (OwesUntil c) c.start (behind.0 ++ event ∷ after) = subst (λ (xs : List Event). Each (OwesUntil c) c.start xs) (same-end c.start k.more (behind.0 ++ event ∷ after) same) k.owes in
+      subst (λ (j : List Event). OwesUntil c j event) (sym behind.1) (Each-at (OwesUntil c) c.start behind.0 event after owes)
 
   -- a collection that has listed all by then
   module _ (c : Collection) (among : Contains collections c) (behind : Behind c journal) (settled : IsSettled (walk_at c journal)) where
     goes-on : (more : List Event) → whole ≡ c.start ++ more → more ≡ behind.0 ++ rest
     goes-on more is = same-end c.start more (behind.0 ++ rest) (sym is ∙ (whole_is ∙ (ap (λ (j : List Event). j ++ rest) behind.1 ∙ append_assoc c.start behind.0 rest)))
 
-    owed : Each (Owes c) c.start (behind.0 ++ rest)
-    owed = let k : Collects c whole = h.collects c among in subst (λ (xs : List Event). Each (Owes c) c.start xs) (goes-on k.more k.is) k.owes
+    owed : Each (OwesUntil c) c.start (behind.0 ++ rest)
+    owed = let k : Collects c whole = h.collects c among in subst (λ (xs : List Event). Each (OwesUntil c) c.start xs) (goes-on k.more k.is) k.owes
 
-    owed-later : Each (Owes c) journal rest
-    owed-later = subst (λ (j : List Event). Each (Owes c) j rest) (sym behind.1) (Each-back (Owes c) c.start behind.0 rest owed).1
+    owed-later : Each (OwesUntil c) journal rest
+    owed-later = subst (λ (j : List Event). Each (OwesUntil c) j rest) (sym behind.1) (Each-back (OwesUntil c) c.start behind.0 rest owed).1
 
     listed-later : (walk_at c whole).lists ≡ 4
     listed-later = subst (λ (j : List Event). (walk_at c j).lists ≡ 4) (sym whole_is) (settled-later c journal rest behind owed-later settled).lists

@@ -14,7 +14,7 @@ use Rattle.object_store.proofs.Slots.{stood-is}
 use Rattle.store_api.specs.Journal.{Each, IsCommitOver, IsGood, IsMadeOver, IsMoved, IsOnce, IsPolite, StoodAt}
 use Rattle.collecting.specs.Walks.{Walk, May}
 use Rattle.collecting.specs.Runs.{walk_of, OwesCollecting}
-use Rattle.history_laws.specs.Collections.{Collection, walk_at, Owes, IsNotBefore}
+use Rattle.history_laws.specs.Collections.{Collection, walk_at, OwesUntil, IsNotBefore}
 use Rattle.history_laws.specs.Laws.{collection_of, ClientCollects, IsNotOf, FirstPreceded, BegunIsLate, CommitsChild}
 use Rattle.history_laws.proofs.Past.{last_time-one}
 use Rattle.history_laws.proofs.Telling.{IsLate}
@@ -24,12 +24,12 @@ use Rattle.history_laws.proofs.Ending.{lates}
 its-walk : (cutoff client : ℕ) (start journal before : List Event) → length before ≤ length journal → walk_at (collection_of cutoff client start journal) before ≡ walk_of cutoff client start before
 its-walk cutoff client start journal before short = ap (walk_of cutoff client start) (take_all (length journal) before short)
 
-its-owes : (cutoff client : ℕ) (start journal before : List Event) (event : Event) → OwesCollecting cutoff client start before event → Owes (collection_of cutoff client start journal) before event
+its-owes : (cutoff client : ℕ) (start journal before : List Event) (event : Event) → OwesCollecting cutoff client start before event → OwesUntil (collection_of cutoff client start journal) before event
 its-owes cutoff client start journal before event owes e within = subst (λ (w : Walk). May cutoff w event.op) (sym (its-walk cutoff client start journal before (omega (arith, within)))) (owes e)
 
 pub client-collects : ClientCollects
 client-collects = record {
-  owes = λ cutoff client start more owes. Each-weaker (OwesCollecting cutoff client start) (Owes (collection_of cutoff client start (start ++ more))) (its-owes cutoff client start (start ++ more)) start more owes;
+  owes = λ cutoff client start more owes. Each-weaker (OwesCollecting cutoff client start) (OwesUntil (collection_of cutoff client start (start ++ more))) (its-owes cutoff client start (start ++ more)) start more owes;
   walk = λ cutoff client start journal later. its-walk cutoff client start (journal ++ later) journal (let long = length-append journal later in omega (arith, long));
 }
 

@@ -13,13 +13,10 @@ use Rattle.object_store.specs.declared.keys.Key.TheVariants.{Snapshot, Manifest,
 use Rattle.object_store.specs.declared.keys.Part.{Part}
 use Rattle.object_store.specs.declared.keys.Part.TheVariants.{Snapshots, Manifests, Txns, Chunks, Branches, Tags, Leases}
 use Rattle.object_store.specs.declared.events.Op.{Op}
-use Rattle.object_store.specs.declared.events.Op.TheVariants.{Get, PutNew, PutOver, Remove, RemoveAt, List as ListPart}
 use Rattle.object_store.specs.declared.events.Got.{Got}
 use Rattle.object_store.specs.declared.events.Got.TheVariants.{Found, Absent}
-use Rattle.object_store.specs.declared.events.Gone.TheVariants.{Done as Gone_done, Absent as Gone_absent}
 use Rattle.object_store.specs.declared.events.Listed.{Listed}
 use Rattle.object_store.specs.declared.events.Reply.{Reply}
-use Rattle.object_store.specs.declared.events.Reply.TheVariants.{Got as Is_got, Gone as Is_gone, Listed as Is_listed}
 use Rattle.object_store.specs.declared.events.Event.{Event}
 use Rattle.object_store.specs.Machine.{Stored, found, got_of, IsListing, IsHonest, UnlessFailed}
 use Rattle.live_refs.specs.Live.{live}
@@ -33,6 +30,7 @@ use Rattle.history_laws.proofs.Past.{Past}
 use Rattle.history_laws.proofs.Down.{stop}
 use Rattle.history_laws.proofs.Safe.{Safe, safe-more}
 use Rattle.history_laws.proofs.Walking.{IsTold, IsDead, found-more, got-found, get-early, list-early}
+use Rattle.history_laws.proofs.ToldBy.{told-by}
 
 -- ---- refs and leases that are still to be got
 abbrev pub IsLeft : Option (List Key) → Key → Type 0
@@ -266,23 +264,6 @@ module _ (snaps : SnapshotLaw) (manifests : ManifestLaw) (doomed : Key → Type 
   listed-told Chunks l may listing = inr h
   listed-told Leases l may listing = inr h
 
-  got-is : (g k : Got) → Is_got g ≡ Is_got k → g ≡ k
-  got-is g k e = cc
-
-  listed-is : (l m : Listed) → Is_listed l ≡ Is_listed m → l ≡ m
-  listed-is l m e = cc
-
   -- an operation that it may make, with its reply
   pub told-safe : (n : ℕ) (op : Op) (reply : Reply) → MayDo cutoff w op → UnlessFailed (IsHonest (found journal) n now op) reply → Goal (told cutoff w op reply)
-  told-safe n (Get key) (Is_got got) may honest = got-told key got may (got-is got (got_of now (found journal key)) honest)
-  told-safe n (Get key) reply may honest = dies w (early key may)
-  told-safe n (ListPart part) (Is_listed l) may honest =
-      let is = listed-is l (record { entries = honest.0; now = now }) honest.1 in
-      listed-told part l may (subst (λ (x : Listed). IsListing (found journal) part x.entries) (sym is) honest.2)
-  told-safe n (ListPart part) reply may honest = inl (refl, list-early snaps manifests cutoff journal past last now later w told_so part may)
-  told-safe n (Remove key why) (Is_gone (Gone_done t)) may honest = inr h
-  told-safe n (Remove key why) (Is_gone (Gone_absent t)) may honest = inr h
-  told-safe n (Remove key why) reply may honest = inr h
-  told-safe n (PutNew key bytes why) reply may honest = absurd may
-  told-safe n (PutOver key bytes old why) reply may honest = absurd may
-  told-safe n (RemoveAt key old why) reply may honest = absurd may
+  told-safe = told-by cutoff journal now w Goal got-told listed-told (λ key may. dies w (early key may)) (λ part may. inl (refl, list-early snaps manifests cutoff journal past last now later w told_so part may)) (λ answered removed over. inr h)

@@ -14,7 +14,7 @@ use Rattle.reach.specs.Chains.{Chain, here, down, StaysOrCut, parent_at}
 use Rattle.reach.specs.Holding.{Holds, Reaches}
 use Rattle.collecting.specs.Walks.{IsObject}
 use Rattle.history_laws.specs.Refs.{StillNames, IsLeased}
-use Rattle.history_laws.specs.Collections.{Collection, OnlyCollects, IsCollected, AreCollected}
+use Rattle.history_laws.specs.Collections.{Collection, walk_at, OnlyCollects, IsCollected, AreCollected}
 use Rattle.history_laws.specs.Laws.{PassedNone, Stands, LeasesFound}
 use Rattle.history_laws.proofs.Steps.{IsRemoval, step-one}
 use Rattle.history_laws.proofs.Past.{Has, Known, known-append, Past, past-of, parent-one, holds-back-one}
@@ -52,7 +52,7 @@ module _ (initial : InitialLaw) (snaps : SnapshotLaw) (manifests : ManifestLaw) 
     not-removed key object r slot removal there stands gone =
         let d = removed initial snaps manifests collections old (journal ++ event ∷ []) after next-part journal event [] refl only key object (record { stored = there; stands = stands; gone = gone }) slot removal in
         let c : IsCollected d.one journal (event ∷ after) = here-part.collected d.one d.among d.behind d.settled in
-        let present : PassedNone d.one journal base = λ q among apart reached.
+        let present : PassedNone (walk_at d.one journal) journal base = λ q among apart reached.
         let lost = lost-passed initial snaps d.one journal (event ∷ after) c.listed q among apart in
         let s = all q lost.object reached lost.put in
         let e = s.1 in

@@ -6,6 +6,7 @@ pub mod Walking
 pub mod Telling
 mod Moving
 pub mod Young
+mod ToldBy
 mod Kept
 mod Leasing
 mod Settled

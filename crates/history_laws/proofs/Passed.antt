@@ -35,7 +35,7 @@ use Rattle.reach.proofs.Holding.{named-put}
 use Rattle.collecting.specs.Marks.{MarkedBy}
 use Rattle.collecting.specs.Marks as marks
 use Rattle.collecting.specs.Walks.{Walk, fresh, IsObject, IsWanted, MayGet, branch, tag, lease, object, MayDo, ended, with_root, with_leased, with_read, with_file, told_ref, told_lease, told_object, told_got, told_listed, told}
-use Rattle.history_laws.specs.Collections.{Collection, walk_at, Owes, IsListed, IsLost}
+use Rattle.history_laws.specs.Collections.{Collection, walk_at, OwesUntil, IsListed, IsLost}
 use Rattle.history_laws.proofs.Steps.{step-one, new-first}
 use Rattle.history_laws.proofs.Past.{Known, known-append, Past, past-of, past-one}
 use Rattle.history_laws.proofs.Walking.{Behind, behind-more, walk-one, walk-start, got-found}
@@ -355,7 +355,7 @@ passing-at-first journal = record {
 }
 
 module _ (initial : InitialLaw) (snaps : SnapshotLaw) (c : Collection) where
-  passing-along : (journal more : List Event) → Behind c journal → IsGoodJournal journal → IsOnce journal → Past journal → Each IsGood journal more → Each IsFirst journal more → Each (Owes c) journal more → IsPassing journal (walk_at c journal) → IsPassing (journal ++ more) (walk_at c (journal ++ more))
+  passing-along : (journal more : List Event) → Behind c journal → IsGoodJournal journal → IsOnce journal → Past journal → Each IsGood journal more → Each IsFirst journal more → Each (OwesUntil c) journal more → IsPassing journal (walk_at c journal) → IsPassing (journal ++ more) (walk_at c (journal ++ more))
   unfolding Each
   passing-along journal [] behind goods once past good first owes h = subst (λ (j : List Event). IsPassing j (walk_at c j)) (sym (append-nil journal)) h
   passing-along journal (x ∷ xs) behind goods once past good first owes h =
@@ -374,7 +374,7 @@ module _ (initial : InitialLaw) (snaps : SnapshotLaw) (c : Collection) where
   lost-passed journal later h key among apart =
       let goods = Each-back IsGood [] c.start h.more (subst (λ (j : List Event). Each IsGood [] j) h.is h.good) in
       let firsts = Each-back IsFirst [] c.start h.more (subst (λ (j : List Event). Each IsFirst [] j) h.is h.once) in
-      let owed = (Each-back (Owes c) c.start h.more later h.owes).0 in
+      let owed = (Each-back (OwesUntil c) c.start h.more later h.owes).0 in
       let from : IsPassing c.start (walk_at c c.start) = subst (IsPassing c.start) (sym (walk-start c)) (passing-at-first c.start) in
       let end : IsPassing journal (walk_at c journal) = subst (λ (j : List Event). IsPassing j (walk_at c j)) (sym h.is) (passing-along c.start h.more ([], sym (append-nil c.start)) goods.0 firsts.0 (past-of initial c.start goods.0 firsts.0) goods.1 firsts.1 owed from) in
       end.lost key among apart

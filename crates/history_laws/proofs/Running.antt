@@ -14,7 +14,7 @@ use Rattle.reach.specs.Holding.{Holds, Reaches}
 use Rattle.reach.specs.Own.{HoldsBesides}
 use Rattle.collecting.specs.Walks.{Walk, fresh, IsObject, MayDo, told}
 use Rattle.history_laws.specs.Refs.{IsRef, Names, Points, makes_branch, makes_tag, resets, Commits}
-use Rattle.history_laws.specs.Collections.{Collection, walk_at, HasBegun, Owes, CommitsOwn, IsQuiet, IsOfSession}
+use Rattle.history_laws.specs.Collections.{Collection, walk_at, HasBegun, OwesUntil, CommitsOwn, IsQuiet, IsOfSession}
 use Rattle.history_laws.proofs.Past.{look, last_time-one, Past, past-one}
 use Rattle.history_laws.proofs.Walking.{IsTold, IsDead, Behind, behind-more, walk-one, walk-start, told-later, told-kept, told-on}
 use Rattle.history_laws.proofs.Telling.{IsLate, stands-at-start, dead-one}
@@ -121,7 +121,7 @@ module _ (initial : InitialLaw) (snaps : SnapshotLaw) (manifests : ManifestLaw) 
               inr (own-young initial c event.client s.from journal held goods once lates s.preceded object.0 object.1 put)
         ])
 
-    pub kept-one : Owes c journal event → IsQuiet doomed c journal event → CommitsOwn c journal event → Kept journal → Kept (journal ++ event ∷ [])
+    pub kept-one : OwesUntil c journal event → IsQuiet doomed c journal event → CommitsOwn c journal event → Kept journal → Kept (journal ++ event ∷ [])
     kept-one owes quiet own (inl dead) = inl (dead-one initial snaps manifests c journal event behind owes dead)
     kept-one owes quiet own (inr k) = elim (walk-one c journal event behind) [
       | inl its ↦ subst (λ (w : Walk). IsDead w ⊎ KeptAt (journal ++ event ∷ []) (last_time (journal ++ event ∷ [])) w) (sym its.walk) (own-part (owes its.client_is its.within).1 k)
@@ -129,7 +129,7 @@ module _ (initial : InitialLaw) (snaps : SnapshotLaw) (manifests : ManifestLaw) 
     ]
 
   pub kept-along : (journal more : List Event) → Behind c journal → Each IsGood [] journal → IsOnce journal → Past journal → Each (IsLate c) [] journal → Each IsGood journal more → Each IsFirst journal more → Each (IsLate c) journal more
-      → Each (Owes c) journal more → Each (IsQuiet doomed c) journal more → Each (CommitsOwn c) journal more → Kept journal → Kept (journal ++ more)
+      → Each (OwesUntil c) journal more → Each (IsQuiet doomed c) journal more → Each (CommitsOwn c) journal more → Kept journal → Kept (journal ++ more)
   unfolding Each
   kept-along journal [] behind goods once past lates good firsts late owes quiet own k = subst Kept (sym (append-nil journal)) k
   kept-along journal (x ∷ xs) behind goods once past lates good firsts late owes quiet own k =

@@ -11,7 +11,7 @@ use Rattle.object_store.specs.declared.events.Reply.TheVariants.{Gone as Is_gone
 use Rattle.object_store.specs.declared.events.Event.{Event}
 use Rattle.store_api.specs.Journal.{Each}
 use Rattle.collecting.specs.Walks.{Walk, Doomed, RefsRead, MayGet, branch, tag, lease, object, MayList, MayDo, told}
-use Rattle.history_laws.specs.Collections.{Collection, walk_at, DoomedBy, Owes}
+use Rattle.history_laws.specs.Collections.{Collection, walk_at, DoomedBy, OwesUntil}
 use Rattle.history_laws.proofs.Walking.{Behind, behind-more, walk-one}
 
 -- all is listed, and each ref was got
@@ -68,28 +68,28 @@ module _ (cutoff : ℕ) (w : Walk) (s : IsSettled w) where
   settled-told (RemoveAt key old why) reply may = absurd may
 
 -- ---- along a journal
-pub settled-one : (c : Collection) (journal : List Event) (event : Event) → Behind c journal → Owes c journal event → IsSettled (walk_at c journal) → DoomsAs c.cutoff (walk_at c (journal ++ event ∷ [])) (walk_at c journal)
+pub settled-one : (c : Collection) (journal : List Event) (event : Event) → Behind c journal → OwesUntil c journal event → IsSettled (walk_at c journal) → DoomsAs c.cutoff (walk_at c (journal ++ event ∷ [])) (walk_at c journal)
 settled-one c journal event behind owes s = elim (walk-one c journal event behind) [
   | inl its ↦ subst (λ (v : Walk). DoomsAs c.cutoff v (walk_at c journal)) (sym its.walk) (settled-told c.cutoff (walk_at c journal) s event.op event.reply (owes its.client_is its.within).1)
   | inr same ↦ subst (λ (v : Walk). DoomsAs c.cutoff v (walk_at c journal)) (sym same) (itself c.cutoff (walk_at c journal) s)
 ]
 
 -- all stays listed
-pub settled-later : (c : Collection) (journal more : List Event) → Behind c journal → Each (Owes c) journal more → IsSettled (walk_at c journal) → IsSettled (walk_at c (journal ++ more))
+pub settled-later : (c : Collection) (journal more : List Event) → Behind c journal → Each (OwesUntil c) journal more → IsSettled (walk_at c journal) → IsSettled (walk_at c (journal ++ more))
 unfolding Each
 settled-later c journal [] behind owes s = subst (λ (j : List Event). IsSettled (walk_at c j)) (sym (append-nil journal)) s
 settled-later c journal (x ∷ xs) behind owes s =
     subst (λ (j : List Event). IsSettled (walk_at c j)) (append_assoc journal (x ∷ []) xs)
     (settled-later c (journal ++ x ∷ []) xs (behind-more c journal (x ∷ []) behind) owes.1 (settled-one c journal x behind owes.0 s).settled)
 
-pub settled-along : (c : Collection) (journal more : List Event) → Behind c journal → Each (Owes c) journal more → IsSettled (walk_at c journal) → (key : Key) → DoomedBy c (journal ++ more) key → DoomedBy c journal key
+pub settled-along : (c : Collection) (journal more : List Event) → Behind c journal → Each (OwesUntil c) journal more → IsSettled (walk_at c journal) → (key : Key) → DoomedBy c (journal ++ more) key → DoomedBy c journal key
 unfolding Each
 settled-along c journal [] behind owes s key d = subst (λ (j : List Event). DoomedBy c j key) (append-nil journal) d
 settled-along c journal (x ∷ xs) behind owes s key d =
     let one = settled-one c journal x behind owes.0 s in
     one.back key (settled-along c (journal ++ x ∷ []) xs (behind-more c journal (x ∷ []) behind) owes.1 one.settled key (subst (λ (j : List Event). DoomedBy c j key) (sym (append_assoc journal (x ∷ []) xs)) d))
 
-pub settled-fore : (c : Collection) (journal more : List Event) → Behind c journal → Each (Owes c) journal more → IsSettled (walk_at c journal) → (key : Key) → DoomedBy c journal key → DoomedBy c (journal ++ more) key
+pub settled-fore : (c : Collection) (journal more : List Event) → Behind c journal → Each (OwesUntil c) journal more → IsSettled (walk_at c journal) → (key : Key) → DoomedBy c journal key → DoomedBy c (journal ++ more) key
 unfolding Each
 settled-fore c journal [] behind owes s key d = subst (λ (j : List Event). DoomedBy c j key) (sym (append-nil journal)) d
 settled-fore c journal (x ∷ xs) behind owes s key d =

@@ -8,7 +8,7 @@ use Rattle.object_store.specs.Machine.{last_time}
 use Rattle.object_store.proofs.Journals.{Each-append, Each-one}
 use Rattle.store_api.specs.Journal.{Each, IsFirst, IsGood, IsOnce}
 use Rattle.collecting.specs.Walks.{Walk}
-use Rattle.history_laws.specs.Collections.{Collection, walk_at, HasBegun, Owes}
+use Rattle.history_laws.specs.Collections.{Collection, walk_at, HasBegun, OwesUntil}
 use Rattle.history_laws.proofs.Past.{last_time-one, Past, past-one}
 use Rattle.history_laws.proofs.Walking.{IsTold, IsDead, Behind, behind-more, walk-one, walk-short, walk-start, told-later, told-kept, told-on}
 
@@ -33,13 +33,13 @@ IsLate c before event = HasBegun c before → c.cutoff ≤ event.time
 
 module _ (initial : InitialLaw) (snaps : SnapshotLaw) (manifests : ManifestLaw) (c : Collection) where
   -- ended too early, it stays so
-  pub dead-one : (journal : List Event) (event : Event) → Behind c journal → Owes c journal event → IsDead (walk_at c journal) → IsDead (walk_at c (journal ++ event ∷ []))
+  pub dead-one : (journal : List Event) (event : Event) → Behind c journal → OwesUntil c journal event → IsDead (walk_at c journal) → IsDead (walk_at c (journal ++ event ∷ []))
   dead-one journal event behind owes d = elim (walk-one c journal event behind) [
     | inl its ↦ (let may = (owes its.client_is its.within).0 in let over = d.0 in cc)
     | inr same ↦ subst IsDead (sym same) d
   ]
 
-  pub dead-along : (journal more : List Event) → Behind c journal → Each (Owes c) journal more → IsDead (walk_at c journal) → IsDead (walk_at c (journal ++ more))
+  pub dead-along : (journal more : List Event) → Behind c journal → Each (OwesUntil c) journal more → IsDead (walk_at c journal) → IsDead (walk_at c (journal ++ more))
   unfolding Each
   dead-along journal [] behind owes d = subst (λ (j : List Event). IsDead (walk_at c j)) (sym (append-nil journal)) d
   dead-along journal (x ∷ xs) behind owes d =
@@ -47,7 +47,7 @@ module _ (initial : InitialLaw) (snaps : SnapshotLaw) (manifests : ManifestLaw) 
       (dead-along (journal ++ x ∷ []) xs (behind-more c journal (x ∷ []) behind) owes.1 (dead-one journal x behind owes.0 d))
 
   -- the collection's walk behind an event, in the journal before it
-  module _ (journal : List Event) (event : Event) (behind : Behind c journal) (good : IsGood journal event) (past : Past journal) (owes : Owes c journal event) where
+  module _ (journal : List Event) (event : Event) (behind : Behind c journal) (good : IsGood journal event) (past : Past journal) (owes : OwesUntil c journal event) where
     pub told-before : IsTold c.cutoff journal (last_time journal) (walk_at c journal) → IsDead (walk_at c (journal ++ event ∷ [])) ⊎ IsTold c.cutoff journal event.time (walk_at c (journal ++ event ∷ []))
     told-before h = elim (walk-one c journal event behind) [
       | inl its ↦ subst (λ (w : Walk). IsDead w ⊎ IsTold c.cutoff journal event.time w) (sym its.walk)
@@ -67,7 +67,7 @@ module _ (initial : InitialLaw) (snaps : SnapshotLaw) (manifests : ManifestLaw) 
   -- ---- along a journal
   -- all is listed at the end
   module _ (whole : List Event) (listed : (walk_at c whole).lists ≡ 4) where
-    pub late-along : (journal more : List Event) → Behind c journal → Past journal → IsOnce journal → Each IsGood journal more → Each IsFirst journal more → Each (Owes c) journal more → journal ++ more ≡ whole → StandsSo c journal → Each (IsLate c) journal more
+    pub late-along : (journal more : List Event) → Behind c journal → Past journal → IsOnce journal → Each IsGood journal more → Each IsFirst journal more → Each (OwesUntil c) journal more → journal ++ more ≡ whole → StandsSo c journal → Each (IsLate c) journal more
     unfolding Each
     late-along journal [] behind past once good first owes is s = tt
     late-along journal (x ∷ xs) behind past once good first owes is s = (
@@ -82,7 +82,7 @@ module _ (initial : InitialLaw) (snaps : SnapshotLaw) (manifests : ManifestLaw) 
           (append_assoc journal (x ∷ []) xs ∙ is) (stands-one journal x behind good.0 past owes.0 once first.0 s),
     )
 
-  pub stands-along : (journal more : List Event) → Behind c journal → Past journal → IsOnce journal → Each IsGood journal more → Each IsFirst journal more → Each (Owes c) journal more → StandsSo c journal → StandsSo c (journal ++ more)
+  pub stands-along : (journal more : List Event) → Behind c journal → Past journal → IsOnce journal → Each IsGood journal more → Each IsFirst journal more → Each (OwesUntil c) journal more → StandsSo c journal → StandsSo c (journal ++ more)
   unfolding Each
   stands-along journal [] behind past once good first owes s = subst (StandsSo c) (sym (append-nil journal)) s
   stands-along journal (x ∷ xs) behind past once good first owes s =

@@ -3,7 +3,8 @@ use Rattle.std.specs.Prelude.{◌≡◌, ℕ, true, List, [], ◌∷◌, ◌++�
 use Rattle.ice_ids.specs.declared.Id12.{Id12}
 use Rattle.repo_objects.specs.Readings.{ref_of}
 use Rattle.object_store.specs.declared.keys.Key.{Key}
-use Rattle.object_store.specs.declared.keys.Key.TheVariants.{Snapshot, Manifest, Txn, Chunk, Branch, Tag, Tombstone, Lease}
+use Rattle.object_store.specs.declared.keys.Key.TheVariants.{Snapshot, Manifest, Txn, Chunk}
+use Rattle.object_store.specs.declared.keys.Key.TheVariants.{Branch, Tag, Tombstone, Lease}
 use Rattle.object_store.specs.declared.keys.Why.TheVariants.{Commit, Create, Reset, Tag as For_tag}
 use Rattle.object_store.specs.declared.events.Version.{Version}
 use Rattle.object_store.specs.declared.events.Op.TheVariants.{PutNew, PutOver}
@@ -61,7 +62,8 @@ pub record LeaseNames (journal : List Event) (lease id : Id12) : Type 0 where
 abbrev pub StillNames : (lease base : Id12) → List Event → Event → Type 0
 StillNames lease base before event = LeaseNames (before ++ event ∷ []) lease base
 
--- At some moment a ref named the base, and the lease named it, too; and at each event since then the lease stood so.
+-- At some moment a ref named the base, and the lease named it, too; and at each event
+-- since then the lease stood so.
 pub record IsLeased (lease base : Id12) (since journal : List Event) : Type 0 where
   pub more : List Event
   pub is : journal ≡ since ++ more
@@ -73,9 +75,16 @@ pub record IsLeased (lease base : Id12) (since journal : List Event) : Type 0 wh
 -- ---- events that took effect, also where their answers were lost
 -- The event made a branch or a tag at this snapshot, or reset a branch to it.
 pub data Points (before : List Event) (event : Event) (id : Id12) : Type 0 where
-  makes_branch : (name bytes : List ℕ) → event.op ≡ PutNew (Branch name) bytes Create → was_done event.reply ≡ true → found before (Branch name) ≡ None → ref_of bytes ≡ Some id → Points before event id
-  makes_tag : (name bytes : List ℕ) → event.op ≡ PutNew (Tag name) bytes For_tag → was_done event.reply ≡ true → found before (Tag name) ≡ None → ref_of bytes ≡ Some id → Points before event id
-  resets : (name bytes : List ℕ) (old : Version) (s : Stored) → event.op ≡ PutOver (Branch name) bytes old Reset → was_done event.reply ≡ true → found before (Branch name) ≡ Some s → s.version ≡ old.0 → ref_of bytes ≡ Some id → Points before event id
+  makes_branch : (name bytes : List ℕ) → event.op ≡ PutNew (Branch name) bytes Create
+      → was_done event.reply ≡ true → found before (Branch name) ≡ None → ref_of bytes ≡ Some id
+      → Points before event id
+  makes_tag : (name bytes : List ℕ) → event.op ≡ PutNew (Tag name) bytes For_tag
+      → was_done event.reply ≡ true → found before (Tag name) ≡ None → ref_of bytes ≡ Some id
+      → Points before event id
+  resets : (name bytes : List ℕ) (old : Version) (s : Stored)
+      → event.op ≡ PutOver (Branch name) bytes old Reset → was_done event.reply ≡ true
+      → found before (Branch name) ≡ Some s → s.version ≡ old.0 → ref_of bytes ≡ Some id
+      → Points before event id
 
 -- The event committed this snapshot to a branch that named the base.
 pub record Commits (before : List Event) (event : Event) (base id : Id12) : Type 0 where

@@ -1,5 +1,6 @@
 -- Ends in memory, some of whose calls are to fail (own).
-use Rattle.std.specs.Prelude.{ℕ, ◌-◌, ◌==◌, ◌++◌, ◌||◌, min, List, length, take, drop, Bool, if◌then◌else◌, nat_le, Some}
+use Rattle.std.specs.Prelude.{ℕ, ◌-◌, ◌==◌, ◌++◌, ◌||◌, min, List, length}
+use Rattle.std.specs.Prelude.{take, drop, Bool, if◌then◌else◌, nat_le, Some}
 use Rattle.std.specs.List.{list_any}
 use Rattle.ice_base.specs.Ends.{InputAt, OutputAt, raised}
 
@@ -37,12 +38,14 @@ given source size = min size (length source.left)
 -- what a read into a buffer of this size leaves
 abbrev pub after_read : ByteSourceAt → ℕ → ByteSourceAt
 after_read source size =
-    if read_fails source then record source { calls = raised source.calls; faults = raised source.faults }
+    if read_fails source
+    then record source { calls = raised source.calls; faults = raised source.faults }
     else record source { left = drop (given source size) source.left; calls = raised source.calls }
 
 -- a write fails where its number is planned, or no room is left
 abbrev pub write_fails : ByteSinkAt → Bool
-write_fails sink = list_any (λ number. number == sink.calls) sink.fail || nat_le sink.room (length sink.written)
+write_fails sink =
+    list_any (λ number. number == sink.calls) sink.fail || nat_le sink.room (length sink.written)
 
 -- it takes as many bytes as there are and as there is room for
 abbrev pub accepted : ByteSinkAt → List ℕ → ℕ
@@ -52,4 +55,7 @@ accepted sink bytes = min (length bytes) (sink.room - length sink.written)
 abbrev pub after_write : ByteSinkAt → List ℕ → ByteSinkAt
 after_write sink bytes =
     if write_fails sink then record sink { calls = raised sink.calls; faults = raised sink.faults }
-    else record sink { written = sink.written ++ take (accepted sink bytes) bytes; calls = raised sink.calls }
+    else record sink {
+      written = sink.written ++ take (accepted sink bytes) bytes;
+      calls = raised sink.calls;
+    }

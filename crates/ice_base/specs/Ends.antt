@@ -1,5 +1,6 @@
 -- What a source gives and a sink takes, and how faults are counted (own).
-use Rattle.std.specs.Prelude.{ℕ, ◌≡◌, ◌+◌, ◌<◌, ◌≤◌, ◌-◌, ◌^◌, ◌⊎◌, ◌++◌, min, List, [], length, take, Option, Some, None, IfSome, Result, Ok, Err}
+use Rattle.std.specs.Prelude.{ℕ, ◌≡◌, ◌+◌, ◌<◌, ◌≤◌, ◌-◌, ◌^◌, ◌⊎◌, ◌++◌, min, List, []}
+use Rattle.std.specs.Prelude.{length, take, Option, Some, None, IfSome, Result, Ok, Err}
 use Rattle.ice_base.specs.declared.ends.Failed.{Failed}
 use Rattle.ice_base.specs.declared.ends.InputFault.{InputFault}
 use Rattle.ice_base.specs.declared.ends.InputFault.TheVariants as F
@@ -33,10 +34,11 @@ IsAtEnd left = IfSome left (λ xs. xs ≡ [])
 
 -- One read into a buffer: it gives the next bytes, as many as it says, none only at the end of the
 -- input; or it fails, takes nothing, and the count of faults rose.
-abbrev pub Reads : InputAt → InputAt → List ℕ → Result ℕ Failed → Type 0
-Reads old new into (Ok count) =
-    (count ≤ length into) × (old.faults ≤ new.faults) × Taken old.left new.left (take count into) × (count ≡ 0 → IsAtEnd old.left)
-Reads old new into (Err failed) = Rose old.faults new.faults × (new.left ≡ old.left)
+abbrev pub ReadsOnce : InputAt → InputAt → List ℕ → Result ℕ Failed → Type 0
+ReadsOnce old new into (Ok count) =
+    (count ≤ length into) × (old.faults ≤ new.faults) × Taken old.left new.left (take count into)
+    × (count ≡ 0 → IsAtEnd old.left)
+ReadsOnce old new into (Err failed) = Rose old.faults new.faults × (new.left ≡ old.left)
 
 -- what was written has grown by this, where it is told
 abbrev pub Appended : Option (List ℕ) → Option (List ℕ) → List ℕ → Type 0
@@ -45,10 +47,11 @@ Appended (Some xs) new more = new ≡ Some (xs ++ more)
 
 -- One write: it appends the first bytes, as many as it says, and at least one; or it fails, appends
 -- nothing, and the count of faults rose.
-abbrev pub Writes : OutputAt → OutputAt → List ℕ → Result ℕ Failed → Type 0
-Writes old new from (Ok count) =
-    (0 < count) × (count ≤ length from) × (old.faults ≤ new.faults) × Appended old.written new.written (take count from)
-Writes old new from (Err failed) = Rose old.faults new.faults × (new.written ≡ old.written)
+abbrev pub WritesOnce : OutputAt → OutputAt → List ℕ → Result ℕ Failed → Type 0
+WritesOnce old new from (Ok count) =
+    (0 < count) × (count ≤ length from) × (old.faults ≤ new.faults)
+    × Appended old.written new.written (take count from)
+WritesOnce old new from (Err failed) = Rose old.faults new.faults × (new.written ≡ old.written)
 
 -- these bytes are the whole input, or its first ones where it has more than can be taken
 pub record IsInput (most : ℕ) (old new : InputAt) (bytes : List ℕ) : Type 0 where

@@ -1,5 +1,7 @@
 -- Names of branches and tags (Icechunk specification version 1, refs; which bytes a name has: own).
-use Rattle.std.specs.Prelude.{ℕ, ◌≡◌, ◌==◌, ◌||◌, ◌<◌, ◌≤◌, nat_lt, List, length, All, Bool, false, if◌then◌else◌, Option, Some, None, option_map, position, codes, bytes_eq}
+use Rattle.std.specs.Prelude.{ℕ, ◌≡◌, ◌==◌, ◌||◌, ◌<◌, ◌≤◌, nat_lt, List, length}
+use Rattle.std.specs.Prelude.{All, Bool, false, if◌then◌else◌, Option, Some, None}
+use Rattle.std.specs.Prelude.{option_map, position, codes, bytes_eq}
 use Rattle.std.specs.Ordering.{nat_cmp}
 use Rattle.std.specs.Cmp.Lexicographic.{slice_cmp}
 use Rattle.std.specs.declared.cmp.Ordering.{Ordering}
@@ -26,12 +28,12 @@ pub record IsPlainName (bytes : List ℕ) : Type 0 where
   pub short : length bytes ≤ 200
   pub plain : All (λ byte. is_barred byte ≡ false) bytes
 
--- a text is refused with the first fault; want of memory may come at any text
+-- a text is refused with the first fault; want of memory may come at any name
 abbrev pub RefusesName : List ℕ → NameFault → Type 0
 RefusesName bytes F.Empty = name_fault bytes ≡ Some F.Empty
 RefusesName bytes (F.Long count) = name_fault bytes ≡ Some (F.Long count)
 RefusesName bytes (F.Byte at) = name_fault bytes ≡ Some (F.Byte at)
-RefusesName bytes F.NoMemory = Unit {0}
+RefusesName bytes F.NoMemory = IsRefName bytes
 
 -- the branch that each repository has
 abbrev pub main_name : List ℕ

@@ -1,7 +1,7 @@
 //! Where bytes come from and where they go.
 
 ghost use Rattle.std.specs.Prelude.{◌≡◌, ◌<◌, ◌≤◌, length, MatchResult};
-ghost use Rattle.ice_base.specs.Ends.{InputAt, OutputAt, raised, Reads, Writes, IsInput, IsInputFault, WroteWhole, WroteLess};
+ghost use Rattle.ice_base.specs.Ends.{InputAt, OutputAt, raised, ReadsOnce, WritesOnce, IsInput, IsInputFault, WroteWhole, WroteLess};
 
 use crate::Bytes;
 use std::alloc::Global;
@@ -19,7 +19,7 @@ pub trait Source {
     /// at the end of the input. A failure takes nothing and is counted.
     fn read(&mut self, into: &mut [u8]) -> Result<usize, Failed>
         requires { 0 < length into.old }
-        ensures { Reads (at self.old) (at self.new) into.new result };
+        ensures { ReadsOnce (at self.old) (at self.new) into.new result };
 }
 
 /// Where bytes go.
@@ -31,7 +31,7 @@ pub trait Sink {
     /// and is counted.
     fn write(&mut self, from: &[u8]) -> Result<usize, Failed>
         requires { 0 < length from.now }
-        ensures { Writes (at self.old) (at self.new) from.now result };
+        ensures { WritesOnce (at self.old) (at self.new) from.now result };
 }
 
 /// A count of faults with one more. At its end it stands still.

@@ -2,7 +2,7 @@
 
 ghost use Rattle.std.specs.Prelude.{◌≡◌, ◌≤◌, ◌<◌, ◌++◌, ◌==◌, [], true, false, Some, min, length, take, drop, IfOk, MatchResult};
 ghost use Rattle.std.specs.List.{list_any};
-ghost use Rattle.ice_base.specs.Ends.{Reads, Writes};
+ghost use Rattle.ice_base.specs.Ends.{ReadsOnce, WritesOnce};
 ghost use Rattle.ice_base.specs.ByteEnds.{source_at, sink_at, read_fails, given, after_read, write_fails, accepted, after_write};
 
 use crate::ends::one_more;
@@ -69,7 +69,7 @@ impl Source for ByteSource {
     /// Gives as many bytes as there are and as fit, and takes no memory.
     fn read(&mut self, into: &mut [u8]) -> Result<usize, Failed>
         requires { 0 < length into.old }
-        ensures reads { Reads (source_at self.old) (source_at self.new) into.new result }
+        ensures reads { ReadsOnce (source_at self.old) (source_at self.new) into.new result }
         ensures answer { MatchResult result
             (λ count. (read_fails self.old ≡ false) × (count ≡ given self.old (length into.old)))
             (λ _. read_fails self.old ≡ true) }
@@ -145,7 +145,7 @@ impl Sink for ByteSink {
     /// Takes as many bytes as there are and as there is room for, and no memory.
     fn write(&mut self, from: &[u8]) -> Result<usize, Failed>
         requires { 0 < length from.now }
-        ensures writes { Writes (sink_at self.old) (sink_at self.new) from.now result }
+        ensures writes { WritesOnce (sink_at self.old) (sink_at self.new) from.now result }
         ensures answer { MatchResult result
             (λ count. (write_fails self.old ≡ false) × (count ≡ accepted self.old from.now))
             (λ _. write_fails self.old ≡ true) }

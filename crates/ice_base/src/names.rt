@@ -1,6 +1,6 @@
 //! Names of branches and tags.
 
-ghost use Rattle.std.specs.Prelude.{◌≡◌, ◌++◌, List, ℕ, length, string_bytes, IfOk, MatchResult, None, position};
+ghost use Rattle.std.specs.Prelude.{◌≡◌, ◌≢◌, ◌++◌, List, ℕ, length, string_bytes, IfOk, MatchResult, None, Some, position};
 ghost use Rattle.ice_base.specs.Names.{is_barred, name_fault, IsRefName, RefusesName, main_name};
 
 use std::alloc::{AllocError, Global};
@@ -59,7 +59,8 @@ fn barred_at(bytes: &[u8]) -> Option<usize>
 /// What is wrong with a name, if anything.
 #[tactic(auto, unfolding(crate::specs::Names::name_fault))]
 fn fault_of(text: &str) -> Option<NameFault>
-    ensures { result ≡ name_fault text.now }
+    ensures fault { result ≡ name_fault text.now }
+    ensures memory { result ≢ Some NameFault.NoMemory }
 {
     if text.is_empty() {
         return Some(NameFault::Empty);
@@ -71,7 +72,8 @@ fn fault_of(text: &str) -> Option<NameFault>
 }
 
 impl RefName {
-    /// Reads a name. The faults come in the order in which `NameFault` lists them.
+    /// Reads a name. The faults come in the order in which `NameFault` lists them; memory is taken for
+    /// a name alone.
     pub fn read(alloc: Global, text: &str) -> Result<RefName, NameFault>
         ensures { MatchResult result (λ name. (name ≡ text.now) × IsRefName text.now)
             (RefusesName text.now) }

@@ -11,7 +11,7 @@ use Rattle.command_words.specs.declared.reading.Command.{Command}
 use Rattle.command_words.specs.declared.reading.UsageFault.{UsageFault}
 use Rattle.command_words.specs.Words.{command_of, dir_of, pair_of}
 use Rattle.run_mirror.specs.declared.ending.MirrorStatus.{MirrorStatus}
-use Rattle.run_mirror.specs.Ending.{MirrorEnds, number_of as mirror_number}
+use Rattle.run_mirror.specs.Ending.{MirrorEnds, mirror_number}
 use Rattle.top_call.specs.declared.statuses.Status.{Status}
 use Rattle.top_call.specs.declared.statuses.Status.TheVariants as S
 use Rattle.top_call.specs.Statuses.{number_of}
@@ -19,8 +19,9 @@ use Rattle.top_call.specs.Promise.{World, KeepsOwn, SparesOwn}
 use Rattle.top_call.specs.Exact.{Exact}
 
 -- ---- a run over one store
--- Over this store, with some input and output, the command was done exactly as the status tells; and over an empty one what was played keeps the promise,
--- and its collections spare what is needed. (The system's streams tell no bytes, so the input and output are some that fit.)
+-- Over this store, with some input and output, the command was done exactly as the status tells;
+-- and over an empty one what was played keeps the promise, and its collections spare what is
+-- needed. (The system's streams tell no bytes, so the input and output are some that fit.)
 pub record Did (draw : Draw) (command : Command) (store : View) (status : Status) : Type 0 where
   pub before : World
   pub after : World
@@ -30,12 +31,15 @@ pub record Did (draw : Draw) (command : Command) (store : View) (status : Status
   pub spares : SparesOwn draw command before after status
 
 -- what the words say was done over this store; or they are wrong, and the status tells that
-pub record DidWords (draw : Draw) (words : List (List ℕ)) (store : View) (status : Status) : Type 0 where
-  pub wrong : (fault : UsageFault) → command_of words ≡ Err fault → (status ≡ S.Usage fault) ⊎ (status ≡ S.NoMemory)
+pub record DidWords (draw : Draw) (words : List (List ℕ)) (store : View)
+    (status : Status) : Type 0 where
+  pub wrong : (fault : UsageFault) → command_of words ≡ Err fault
+      → (status ≡ S.Usage fault) ⊎ (status ≡ S.NoMemory)
   pub did : (command : Command) → command_of words ≡ Ok command → Did draw command store status
 
 -- the process ended with that status, and the store was such a one
-pub record EndsByRun (draw : Draw) (Is : View → Type 0) (words : List (List ℕ)) (code : ExitCode) : Type 0 where
+pub record EndsByRun (draw : Draw) (Is : View → Type 0) (words : List (List ℕ))
+    (code : ExitCode) : Type 0 where
   pub store : View
   pub kind : Is store
   pub status : Status
@@ -81,11 +85,15 @@ abbrev pub EndsUnbegun : ExitCode → Type 0
 EndsUnbegun code = (status : Status) × IsStreamFault status × (exit_status code ≡ number_of status)
 
 -- ---- by the words
-abbrev pub EndsWhere : (dir : Option (List ℕ)) → (pair : Option (List ℕ × List ℕ)) → (words : List (List ℕ)) → ExitCode → Type 0
+abbrev pub EndsWhere : (dir : Option (List ℕ)) → (pair : Option (List ℕ × List ℕ))
+    → (words : List (List ℕ)) → ExitCode → Type 0
 EndsWhere None None words code = EndsInMemory words code
 EndsWhere None (Some pair) words code = EndsUnbegun code ⊎ (EndsUnopened code ⊎ EndsByMirror code)
-EndsWhere (Some dir) pair words code = EndsUnbegun code ⊎ (EndsUnopened code ⊎ EndsInDirectory words code)
+EndsWhere (Some dir) pair words code =
+    EndsUnbegun code ⊎ (EndsUnopened code ⊎ EndsInDirectory words code)
 
--- by these words, where the repository lies that they name; or there was no memory to find out where
+-- by these words, where the repository lies that they name; or there
+-- was no memory to find out where
 abbrev pub EndsByWords : (words : List (List ℕ)) → ExitCode → Type 0
-EndsByWords words code = (exit_status code ≡ number_of S.NoMemory) ⊎ EndsWhere (dir_of words) (pair_of words) words code
+EndsByWords words code =
+    (exit_status code ≡ number_of S.NoMemory) ⊎ EndsWhere (dir_of words) (pair_of words) words code

@@ -1,7 +1,7 @@
 //! Mirrors of directories.
 
 ghost use Rattle.std.specs.Prelude.{◌≡◌, ◌⊎◌, IfErr};
-ghost use Rattle.run_mirror.specs.Ending.{number_of as mirror_number};
+ghost use Rattle.run_mirror.specs.Ending.{mirror_number};
 ghost use Rattle.top_call.specs.Statuses.{number_of};
 ghost use Rattle.ice_cli.specs.Ending.{EndsByMirror, EndsUnopened};
 

@@ -2,7 +2,7 @@
 
 ghost use Rattle.std.specs.Prelude.{◌≡◌, false, refl, IfOk};
 ghost use Rattle.object_store.specs.Callers.{Called};
-ghost use Rattle.dir_store.specs.Store.{view_of, operations_of, IsMade, IsRightGot, IsRightNew, IsRightOver, IsRightGoneAt};
+ghost use Rattle.dir_store.specs.Store.{view_of, operations_of, Raises, IsRightGot, IsRightNew, IsRightOver, IsRightGoneAt};
 ghost use Rattle.dir_store.specs.Listings.{IsListed};
 
 use dir_store::{DirStore, FirstFault};
@@ -45,7 +45,7 @@ impl<L: Rule> ObjectStore<L> for SystemStore {
         ensures call { Called L.may (λ a. Reply.Got a) (Op.Get key.now) result
             (view_of self.old.store) (view_of self.new.store) }
         ensures content { IfOk result (IsRightGot key.now) }
-        ensures made { IsMade result (operations_of self.old.store) (operations_of self.new.store) }
+        ensures made { Raises result (operations_of self.old.store) (operations_of self.new.store) }
     {
         ObjectStore::<L>::get(&mut self.store, key)
     }
@@ -54,7 +54,7 @@ impl<L: Rule> ObjectStore<L> for SystemStore {
         ensures call { Called L.may (λ a. Reply.New a) (Op.PutNew key.now bytes.now why) result
             (view_of self.old.store) (view_of self.new.store) }
         ensures content { IfOk result (IsRightNew key.now bytes.now) }
-        ensures made { IsMade result (operations_of self.old.store) (operations_of self.new.store) }
+        ensures made { Raises result (operations_of self.old.store) (operations_of self.new.store) }
     {
         ObjectStore::<L>::put_new(&mut self.store, key, bytes, why)
     }
@@ -69,7 +69,7 @@ impl<L: Rule> ObjectStore<L> for SystemStore {
         ensures call { Called L.may (λ a. Reply.Over a) (Op.PutOver key.now bytes.now old why)
             result (view_of self.old.store) (view_of self.new.store) }
         ensures content { IfOk result (IsRightOver key.now bytes.now old) }
-        ensures made { IsMade result (operations_of self.old.store) (operations_of self.new.store) }
+        ensures made { Raises result (operations_of self.old.store) (operations_of self.new.store) }
     {
         ObjectStore::<L>::put_over(&mut self.store, key, bytes, old, why)
     }
@@ -77,7 +77,7 @@ impl<L: Rule> ObjectStore<L> for SystemStore {
     fn remove(&mut self, key: &Key, why: Why) -> Result<Gone, StoreFault>
         ensures call { Called L.may (λ a. Reply.Gone a) (Op.Remove key.now why) result
             (view_of self.old.store) (view_of self.new.store) }
-        ensures made { IsMade result (operations_of self.old.store) (operations_of self.new.store) }
+        ensures made { Raises result (operations_of self.old.store) (operations_of self.new.store) }
     {
         ObjectStore::<L>::remove(&mut self.store, key, why)
     }
@@ -86,7 +86,7 @@ impl<L: Rule> ObjectStore<L> for SystemStore {
         ensures call { Called L.may (λ a. Reply.GoneAt a) (Op.RemoveAt key.now old why) result
             (view_of self.old.store) (view_of self.new.store) }
         ensures content { IfOk result (IsRightGoneAt old) }
-        ensures made { IsMade result (operations_of self.old.store) (operations_of self.new.store) }
+        ensures made { Raises result (operations_of self.old.store) (operations_of self.new.store) }
     {
         ObjectStore::<L>::remove_at(&mut self.store, key, old, why)
     }
@@ -95,7 +95,7 @@ impl<L: Rule> ObjectStore<L> for SystemStore {
         ensures call { Called L.may (λ a. Reply.Listed a) (Op.List part) result
             (view_of self.old.store) (view_of self.new.store) }
         ensures content { IfOk result (λ listed. IsListed part listed.entries) }
-        ensures made { IsMade result (operations_of self.old.store) (operations_of self.new.store) }
+        ensures made { Raises result (operations_of self.old.store) (operations_of self.new.store) }
     {
         ObjectStore::<L>::list(&mut self.store, part)
     }

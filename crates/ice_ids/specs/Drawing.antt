@@ -1,5 +1,6 @@
 -- Drawing ids that were never drawn before (own).
-use Rattle.std.specs.Prelude.{ℕ, ◌+◌, ◌-◌, ◌*◌, ◌^◌, ◌==◌, ◌≤◌, ◌≡◌, ◌≢◌, ◌++◌, Bool, if◌then◌else◌, List, Option, Some, None, is_none}
+use Rattle.std.specs.Prelude.{ℕ, ◌+◌, ◌-◌, ◌*◌, ◌^◌, ◌==◌, ◌≤◌, ◌≡◌, ◌≢◌, ◌++◌, Bool}
+use Rattle.std.specs.Prelude.{if◌then◌else◌, List, Option, Some, None, is_none}
 use Rattle.std.specs.Int.{w32, w64, to_be_bytes, to_le_bytes}
 use Rattle.rand_chacha.specs.ChaCha.{ChaCha, key_of, next_word}
 use Rattle.ice_ids.specs.declared.Id12.{Id12}
@@ -13,7 +14,8 @@ use Rattle.ice_ids.specs.declared.drawing.Draw.TheVariants as D
 use Rattle.ice_ids.specs.Text.{initial_id}
 
 -- what is so of a source of ids of one kind, by the ids that are left of a client's
-pub record IsSource {S I : Type 0} (left client : S → ℕ) (drawn : S → Option I) (after : S → S) : Type 0 where
+pub record IsSource {S I : Type 0} (left client : S → ℕ) (drawn : S → Option I)
+    (after : S → S) : Type 0 where
   -- no id is answered exactly where nothing is left
   pub ends : (s : S) → is_none (drawn s) ≡ (left s == 0)
   -- a draw takes one from what is left, and at the end all stays as it is
@@ -71,7 +73,9 @@ two_words g = word_bytes g ++ word_bytes (behind_word g)
 
 -- an id is the first words from there
 abbrev pub streamed12 : StreamIds → Id12
-streamed12 ids = record { 0 = two_words (stream_place ids) ++ word_bytes (behind_word (behind_word (stream_place ids))) }
+streamed12 ids = record {
+  0 = two_words (stream_place ids) ++ word_bytes (behind_word (behind_word (stream_place ids)));
+}
 
 abbrev pub streamed8 : StreamIds → Id8
 streamed8 ids = record { 0 = two_words (stream_place ids) }
@@ -125,10 +129,16 @@ pub record IsAmong (draw : Draw) (most : ℕ) (ids : AnyIds) : Type 0 where
   pub way : draw_of ids ≡ draw
   pub small : client_of ids ≤ most
 
--- No id is drawn twice in this way by clients of at most this number: two draws of one id are draws of one client, with as much
--- left. No object id that is drawn is that of the initial snapshot. So it always is by counting; at random nobody can prove it,
--- and where it doesn't hold two of some hundred million numbers of 64 bits are the same.
+-- No id is drawn twice in this way by clients of at most this number: two draws of one id are draws
+-- of one client, with as much left. No object id that is drawn is that of the initial snapshot. So
+-- it always is by counting; at random nobody can prove it, and where it doesn't hold two of some
+-- hundred million numbers of 64 bits are the same.
 pub record DrawsOnce (draw : Draw) (most : ℕ) : Type 0 where
-  pub objects : (a b : AnyIds) (id : Id12) → IsAmong draw most a → IsAmong draw most b → drawn12 a ≡ Some id → drawn12 b ≡ Some id → (client_of a ≡ client_of b) × (left_of a ≡ left_of b)
-  pub nodes : (a b : AnyIds) (id : Id8) → IsAmong draw most a → IsAmong draw most b → drawn8 a ≡ Some id → drawn8 b ≡ Some id → (client_of a ≡ client_of b) × (left_of a ≡ left_of b)
-  pub others : (ids : AnyIds) (id : Id12) → IsAmong draw most ids → drawn12 ids ≡ Some id → id ≢ initial_id
+  pub objects : (a b : AnyIds) (id : Id12) → IsAmong draw most a
+      → IsAmong draw most b → drawn12 a ≡ Some id → drawn12 b ≡ Some id
+      → (client_of a ≡ client_of b) × (left_of a ≡ left_of b)
+  pub nodes : (a b : AnyIds) (id : Id8) → IsAmong draw most a
+      → IsAmong draw most b → drawn8 a ≡ Some id → drawn8 b ≡ Some id
+      → (client_of a ≡ client_of b) × (left_of a ≡ left_of b)
+  pub others : (ids : AnyIds) (id : Id12) → IsAmong draw most ids → drawn12 ids ≡ Some id
+      → id ≢ initial_id

@@ -1,5 +1,7 @@
 -- Ids and their texts: Icechunk specification version 1, object ids, in Crockford's base 32.
-use Rattle.std.specs.Prelude.{ℕ, ◌≡◌, ◌<◌, ◌*◌, ◌/◌, ◌%◌, ◌^◌, ◌==◌, List, [], ◌∷◌, length, map, slice_index, Bool, if◌then◌else◌, Option, Some, None, is_none, unwrap_or, Result, Ok, Err, All, codes, position, bytes_eq}
+use Rattle.std.specs.Prelude.{ℕ, ◌≡◌, ◌<◌, ◌*◌, ◌/◌, ◌%◌, ◌^◌, ◌==◌, List, [], ◌∷◌, length, map}
+use Rattle.std.specs.Prelude.{slice_index, Bool, if◌then◌else◌, Option, Some, None, is_none}
+use Rattle.std.specs.Prelude.{unwrap_or, Result, Ok, Err, All, codes, position, bytes_eq}
 use Rattle.std.specs.Int.Digits.{number_from_digits}
 use Rattle.std.specs.Ordering.{nat_cmp}
 use Rattle.std.specs.Cmp.Lexicographic.{slice_cmp}
@@ -73,7 +75,9 @@ id12_of_text text = id12_of_number (number_of_text 20 4 text)
 
 -- the id of the initial snapshot (own)
 abbrev pub initial_id : Id12
-initial_id = record { 0 = 0x0b ∷ 0x1c ∷ 0xc8 ∷ 0xd6 ∷ 0x78 ∷ 0x75 ∷ 0x80 ∷ 0xf0 ∷ 0xe3 ∷ 0x3a ∷ 0x65 ∷ 0x34 ∷ [] }
+initial_id = record {
+  0 = 0x0b ∷ 0x1c ∷ 0xc8 ∷ 0xd6 ∷ 0x78 ∷ 0x75 ∷ 0x80 ∷ 0xf0 ∷ 0xe3 ∷ 0x3a ∷ 0x65 ∷ 0x34 ∷ [];
+}
 
 -- a node id: 8 bytes, 13 letters, 1 added bit
 abbrev pub IsId8 : Id8 → Type 0

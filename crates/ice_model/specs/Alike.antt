@@ -6,7 +6,7 @@ use Rattle.ice_ids.specs.Text.{same_id8}
 use Rattle.zarr_path.specs.Paths.{path_cmp}
 use Rattle.zarr_tree.specs.Nodes.{Node}
 use Rattle.zarr_tree.specs.Trees.{Tree}
-use Rattle.zarr_tree.specs.Held.{Entry, entry_in}
+use Rattle.zarr_tree.specs.Held.{HeldEntry, entry_in}
 use Rattle.manifest_file.specs.declared.manifest.Place.{Place}
 use Rattle.manifest_file.specs.declared.manifest.Place.TheVariants.{Inline}
 
@@ -29,7 +29,9 @@ same_chunk a b = false
 
 -- at each path two trees have the same node, and at each index the same chunk, or none
 abbrev pub same_at : (indices : List (List ℕ)) → Tree → Tree → (path : List ℕ) → Bool
-same_at indices t u path = same_found (get t.nodes path) (get u.nodes path) && list_all (λ i. same_chunk (t.chunk path i) (u.chunk path i)) indices
+same_at indices t u path =
+    same_found (get t.nodes path) (get u.nodes path)
+    && list_all (λ i. same_chunk (t.chunk path i) (u.chunk path i)) indices
 
 abbrev pub same_trees : (paths indices : List (List ℕ)) → Tree → Tree → Bool
 same_trees paths indices t u = list_all (λ path. same_at indices t u path) paths
@@ -46,10 +48,14 @@ same_entry None None = true
 same_entry a b = false
 
 -- at each index a node has the same entry, or none
-abbrev pub same_entries : (indices : List (List ℕ)) → List (Entry Place) → List (Entry (List ℕ)) → Option Node → Bool
-same_entries indices held entries (Some node) = list_all (λ i. same_entry (entry_in held node.id i) (entry_in entries node.id i)) indices
+abbrev pub same_entries : (indices : List (List ℕ)) → List (HeldEntry Place)
+    → List (HeldEntry (List ℕ)) → Option Node → Bool
+same_entries indices held entries (Some node) =
+    list_all (λ i. same_entry (entry_in held node.id i) (entry_in entries node.id i)) indices
 same_entries indices held entries None = true
 
 -- so has each node of a tree
-abbrev pub same_chunks : (paths indices : List (List ℕ)) → List (Entry Place) → List (Entry (List ℕ)) → FinMap path_cmp Node → Bool
-same_chunks paths indices held entries nodes = list_all (λ path. same_entries indices held entries (get nodes path)) paths
+abbrev pub same_chunks : (paths indices : List (List ℕ)) → List (HeldEntry Place)
+    → List (HeldEntry (List ℕ)) → FinMap path_cmp Node → Bool
+same_chunks paths indices held entries nodes =
+    list_all (λ path. same_entries indices held entries (get nodes path)) paths

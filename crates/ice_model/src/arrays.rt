@@ -10,14 +10,14 @@ use manifest_file::Place;
 use std::alloc::Global;
 use tree_model::{Changes, Nodes};
 use zarr_changes::{ChangeSet, ChangedArray};
-use zarr_meta::View;
+use zarr_meta::MetaView;
 use zarr_path::{Index, Path};
 use zarr_tree::{Found, TreeLike};
 
 /// How many dimensions a node has that is an array with entries.
 fn changed_rank(changes: &Changes, found: Found<'_>) -> Option<usize> {
     match &found.meta.view {
-        View::Array(array) if changes.has_entry(&found.id) => Some(array.shape.len()),
+        MetaView::Array(array) if changes.has_entry(&found.id) => Some(array.shape.len()),
         _ => None,
     }
 }

@@ -2,14 +2,14 @@
 
 use std::alloc::AllocError;
 use tree_model::Edit;
-use zarr_meta::{Meta, View};
+use zarr_meta::{Meta, MetaView};
 use zarr_path::Path;
 
 /// Appends what metadata says.
 fn push_meta(told: &mut String, meta: &Meta) -> Result<(), AllocError> {
     match &meta.view {
-        View::Group => write!(told, " group of {} bytes", meta.text.len()),
-        View::Array(array) => write!(
+        MetaView::Group => write!(told, " group of {} bytes", meta.text.len()),
+        MetaView::Array(array) => write!(
             told,
             " array {:?} in {:?} of {}, fill {}",
             array.shape.as_slice(),

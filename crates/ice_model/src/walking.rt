@@ -6,7 +6,7 @@ use crate::stops::{Stop, expect};
 use std::alloc::Global;
 use tree_model::Nodes;
 use zarr_changes::ChangeSet;
-use zarr_meta::View;
+use zarr_meta::MetaView;
 use zarr_path::{Path, is_within};
 use zarr_tree::{Found, TreeLike};
 
@@ -70,7 +70,8 @@ pub fn compare_paths<B: TreeLike>(
 fn is_row(row: Option<&(Path, bool)>, path: &Path, found: Found<'_>) -> bool {
     match row {
         Some(row) => {
-            row.0.as_str() == path.as_str() && row.1 == matches!(found.meta.view, View::Array(_))
+            row.0.as_str() == path.as_str()
+                && row.1 == matches!(found.meta.view, MetaView::Array(_))
         }
         None => false,
     }

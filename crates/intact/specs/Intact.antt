@@ -15,24 +15,25 @@ pub record Made : Type 0 where
   pub reply : Reply
 
 -- it was made, and this was the reply
-pub record IsTold (made : List Made) (visit : Visit) (reply : Reply) : Type 0 where
+pub record WasAnswered (made : List Made) (visit : Visit) (reply : Reply) : Type 0 where
   pub one : Made
   pub among : Contains made one
   pub visit_is : one.visit ≡ visit
   pub reply_is : one.reply ≡ reply
 
--- What is named: the least set with the listings of the branches and of the tags, and with all to which what was made for one of its own
--- leads. A listing leads to its refs that stand, a ref to its snapshot, a snapshot to its log, manifests and parent, a manifest to parts of
--- objects.
+-- What is named: the least set with the listings of the branches and of the tags, and with all to
+-- which what was made for one of its own leads. A listing leads to its refs that stand, a ref to
+-- its snapshot, a snapshot to its log, manifests and parent, a manifest to parts of objects.
 pub data Named (made : List Made) : Visit → Type 0 where
   branches : Named made (Refs Branches)
   tags : Named made (Refs Tags)
-  behind : {v w : Visit} {reply : Reply} → Named made v → IsTold made v reply → Contains (leads v reply) w → Named made w
+  behind : {v w : Visit} {reply : Reply} → Named made v → WasAnswered made v reply
+      → Contains (leads v reply) w → Named made w
 
 -- it was made
-pub record IsMade (made : List Made) (visit : Visit) : Type 0 where
+pub record WasVisited (made : List Made) (visit : Visit) : Type 0 where
   pub reply : Reply
-  pub told : IsTold made visit reply
+  pub told : WasAnswered made visit reply
 
 -- nothing is wrong by a reply
 pub record IsFineBy (visit : Visit) (reply : Reply) : Type 0 where
@@ -41,13 +42,13 @@ pub record IsFineBy (visit : Visit) (reply : Reply) : Type 0 where
 
 -- It was made, and nothing is wrong. What was never made isn't fine.
 pub record IsFine (made : List Made) (visit : Visit) : Type 0 where
-  pub was : IsMade made visit
-  pub each : (reply : Reply) → IsTold made visit reply → IsFineBy visit reply
+  pub was : WasVisited made visit
+  pub each : (reply : Reply) → WasAnswered made visit reply → IsFineBy visit reply
 
 -- the snapshot was read, and this is its parent
 pub record HasParent (made : List Made) (id parent : Id12) : Type 0 where
   pub got : Got
-  pub answered : IsTold made (Snap id) (Is_got got)
+  pub answered : WasAnswered made (Snap id) (Is_got got)
   pub file : SnapshotFile
   pub read : found_snapshot id got ≡ Ok file
   pub is : file.parent ≡ Some parent
@@ -55,7 +56,8 @@ pub record HasParent (made : List Made) (id parent : Id12) : Type 0 where
 -- one snapshot is above another along parents
 pub data IsAbove (made : List Made) : (id below : Id12) → Type 0 where
   next : {id below : Id12} → HasParent made id below → IsAbove made id below
-  further : {id parent below : Id12} → HasParent made id parent → IsAbove made parent below → IsAbove made id below
+  further : {id parent below : Id12} → HasParent made id parent → IsAbove made parent below
+      → IsAbove made id below
 
 -- All that is named was made and is fine, and no snapshot is above itself.
 pub record IsIntact (made : List Made) : Type 0 where

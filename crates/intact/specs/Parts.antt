@@ -1,5 +1,7 @@
--- The chunks that a manifest has for a node: those that are in the manifest, and the parts of objects.
-use Rattle.std.specs.Prelude.{ℕ, List, [], ◌∷◌, Option, Some, None, Result, Ok, Err, filter_map, unwrap_or}
+-- The chunks that a manifest has for a node: those that are in the
+-- manifest, and the parts of objects.
+use Rattle.std.specs.Prelude.{ℕ, List, [], ◌∷◌, Option, Some, None}
+use Rattle.std.specs.Prelude.{Result, Ok, Err, filter_map, unwrap_or}
 use Rattle.std.specs.Option.{option_or}
 use Rattle.ice_ids.specs.declared.Id8.{Id8}
 use Rattle.manifest_file.specs.declared.manifest.Place.{Place}
@@ -28,12 +30,14 @@ inline_fault want (Object id offset size) = None
 -- the first of these chunks that is in the manifest and isn't as long as a chunk
 unfoldable pub first_short : (want : ℕ) → List ChunkRef → Option Bad
 first_short want [] = None
-first_short want (chunk ∷ chunks) = option_or (inline_fault want chunk.place) (first_short want chunks)
+first_short want (chunk ∷ chunks) =
+    option_or (inline_fault want chunk.place) (first_short want chunks)
 
 -- ---- in objects
 abbrev pub part_at : (want : ℕ) → Place → Option PartVisit
 part_at want (Inline bytes) = None
-part_at want (Object id offset size) = Some (record { object = id; offset = offset; size = size; want = want })
+part_at want (Object id offset size) =
+    Some (record { object = id; offset = offset; size = size; want = want })
 
 -- the parts of objects that chunks name, in their order
 abbrev pub parts_in : (want : ℕ) → List ChunkRef → List PartVisit

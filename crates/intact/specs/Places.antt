@@ -1,5 +1,6 @@
 -- A snapshot or a manifest that is held, and what is left of it from a place on.
-use Rattle.std.specs.Prelude.{◌≡◌, ◌<◌, ℕ, ◌+◌, ◌-◌, ◌*◌, ◌^◌, List, [], ◌∷◌, ◌++◌, drop, Option, Some, None}
+use Rattle.std.specs.Prelude.{◌≡◌, ◌<◌, ℕ, ◌+◌, ◌-◌, ◌*◌, ◌^◌}
+use Rattle.std.specs.Prelude.{List, [], ◌∷◌, ◌++◌, drop, Option, Some, None}
 use Rattle.std.specs.declared.cmp.Ordering.{Ordering}
 use Rattle.std.specs.Ordering.{nat_cmp, ordering_then}
 use Rattle.ice_ids.specs.declared.Id12.{Id12}
@@ -11,13 +12,19 @@ use Rattle.intact.specs.Rows.{files_of_row, files_of}
 
 -- ---- orders
 abbrev pub file_cmp : FileVisit → FileVisit → Ordering
-file_cmp a b = ordering_then (id12_cmp a.manifest b.manifest) (ordering_then (id8_cmp a.node b.node) (nat_cmp a.want b.want))
+file_cmp a b =
+    ordering_then (id12_cmp a.manifest b.manifest)
+    (ordering_then (id8_cmp a.node b.node) (nat_cmp a.want b.want))
 
 abbrev pub part_cmp : PartVisit → PartVisit → Ordering
-part_cmp a b = ordering_then (id12_cmp a.object b.object) (ordering_then (nat_cmp a.offset b.offset) (ordering_then (nat_cmp a.size b.size) (nat_cmp a.want b.want)))
+part_cmp a b =
+    ordering_then (id12_cmp a.object b.object)
+    (ordering_then (nat_cmp a.offset b.offset)
+    (ordering_then (nat_cmp a.size b.size) (nat_cmp a.want b.want)))
 
 -- ---- a snapshot
--- what is left: manifests to be got, each for a node, and the parent; and how far the place may move at most
+-- what is left: manifests to be got, each for a node, and the parent; and how
+-- far the place may move at most
 pub record SnapshotLeft : Type 0 where
   pub parent : Option Id12
   pub files : List FileVisit
@@ -45,7 +52,8 @@ most_steps = many * many + many
 -- the first manifest is taken
 abbrev pub TakesFile : SnapshotLeft → Option FileVisit → SnapshotLeft → Type 0
 TakesFile old None new = (old.files ≡ []) × (new ≡ old)
-TakesFile old (Some f) new = (old.files ≡ f ∷ new.files) × (new.parent ≡ old.parent) × (new.steps < old.steps)
+TakesFile old (Some f) new =
+    (old.files ≡ f ∷ new.files) × (new.parent ≡ old.parent) × (new.steps < old.steps)
 
 -- ---- a manifest
 -- the first part is taken

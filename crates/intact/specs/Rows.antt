@@ -1,6 +1,7 @@
--- The rows of a snapshot: whether they are a tree's, and the manifests that they name. (Zarr v3 core specification, "Hierarchy"; that ids
--- are distinct is own.)
-use Rattle.std.specs.Prelude.{ℕ, not, ◌&&◌, ◌||◌, if◌then◌else◌, Bool, false, List, [], ◌∷◌, ◌++◌, length, map, Option, Some, None}
+-- The rows of a snapshot: whether they are a tree's, and the manifests that they name. (Zarr v3
+-- core specification, "Hierarchy"; that ids are distinct is own.)
+use Rattle.std.specs.Prelude.{ℕ, not, ◌&&◌, ◌||◌, if◌then◌else◌, Bool, false}
+use Rattle.std.specs.Prelude.{List, [], ◌∷◌, ◌++◌, length, map, Option, Some, None}
 use Rattle.std.specs.List.{list_any, flat_map}
 use Rattle.ice_ids.specs.declared.Id8.{Id8}
 use Rattle.ice_ids.specs.Text.{same_id8}
@@ -32,7 +33,9 @@ is_well rows earlier row = not (has_node earlier row.id) && stands rows row.path
 -- the number of the first row that isn't well, where `left` come behind `earlier`
 unfoldable pub unwell_behind : (rows earlier left : List NodeRow) → Option ℕ
 unwell_behind rows earlier [] = None
-unwell_behind rows earlier (row ∷ left) = if is_well rows earlier row then unwell_behind rows (earlier ++ row ∷ []) left else Some (length earlier)
+unwell_behind rows earlier (row ∷ left) =
+    if is_well rows earlier row then unwell_behind rows (earlier ++ row ∷ []) left
+    else Some (length earlier)
 
 abbrev pub first_unwell : List NodeRow → Option ℕ
 first_unwell rows = unwell_behind rows [] rows

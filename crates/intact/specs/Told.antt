@@ -4,11 +4,13 @@ use Rattle.ice_ids.specs.declared.Id12.{Id12}
 use Rattle.snapshot_file.specs.declared.snapshot.SnapshotFile.{SnapshotFile}
 use Rattle.manifest_file.specs.declared.manifest.ManifestFile.{ManifestFile}
 use Rattle.repo_objects.specs.declared.bad_objects.Bad.{Bad}
-use Rattle.repo_objects.specs.Readings.{read_snapshot, read_manifest, read_log, read_chunk, read_ref}
+use Rattle.repo_objects.specs.Readings.{read_snapshot, read_manifest}
+use Rattle.repo_objects.specs.Readings.{read_log, read_chunk, read_ref}
 use Rattle.object_store.specs.declared.events.Got.{Got}
 use Rattle.object_store.specs.declared.events.Got.TheVariants.{Found, Absent as Got_absent}
 use Rattle.check_reports.specs.declared.faults.FaultKind.{FaultKind}
-use Rattle.check_reports.specs.declared.faults.FaultKind.TheVariants.{Absent, Bad as Is_bad, NotWell}
+use Rattle.check_reports.specs.declared.faults.FaultKind.TheVariants.{Absent, Bad as Is_bad}
+use Rattle.check_reports.specs.declared.faults.FaultKind.TheVariants.{NotWell}
 use Rattle.intact.specs.declared.visits.FileVisit.{FileVisit}
 use Rattle.intact.specs.declared.visits.PartVisit.{PartVisit}
 use Rattle.intact.specs.Rows.{first_unwell}

@@ -1,5 +1,6 @@
 -- What operations of the store are made for when all that refs reach is read, and where each leads.
-use Rattle.std.specs.Prelude.{if◌then◌else◌, List, [], ◌∷◌, ◌++◌, map, Option, Some, None, Result, Ok, Err}
+use Rattle.std.specs.Prelude.{if◌then◌else◌, List, [], ◌∷◌, ◌++◌, map}
+use Rattle.std.specs.Prelude.{Option, Some, None, Result, Ok, Err}
 use Rattle.ice_ids.specs.declared.Id12.{Id12}
 use Rattle.ice_ids.specs.Text.{same_id12, initial_id}
 use Rattle.snapshot_file.specs.declared.snapshot.SnapshotFile.{SnapshotFile}
@@ -20,7 +21,8 @@ use Rattle.intact.specs.Rows.{files_of}
 use Rattle.intact.specs.Parts.{parts_of}
 use Rattle.intact.specs.Told.{found_ref, found_snapshot, found_log, found_manifest, found_part}
 
--- What an operation is for: a listing of refs, a ref, a snapshot, its log, a manifest for a node, or a part of an object.
+-- What an operation is for: a listing of refs, a ref, a snapshot, its log, a manifest for
+-- a node, or a part of an object.
 pub data Visit : Type 0 where
   Refs : Part_of_store → Visit
   Ref : Key → Visit
@@ -43,7 +45,8 @@ abbrev pub behind_ref : Option Id12 → List Visit
 behind_ref None = []
 behind_ref (Some id) = Snap id ∷ []
 
--- a snapshot to its log, but for the initial one; to the manifests that its rows name, each for the row's node; and to its parent
+-- a snapshot to its log, but for the initial one; to the manifests that its rows name, each for
+-- the row's node; and to its parent
 abbrev pub its_log : Id12 → List Visit
 its_log id = if same_id12 id initial_id then [] else Log id ∷ []
 
@@ -62,15 +65,16 @@ abbrev pub behind_manifest : FileVisit → ManifestFile → List Visit
 behind_manifest f m = map (λ p. Part p) (parts_of f m)
 
 -- with a fault it leads no further
-abbrev pub leading : {A : Type 0} → (A → List Visit) → Result A FaultKind → Result (List Visit) FaultKind
+abbrev pub leading : {A : Type 0} → (A → List Visit) → Result A FaultKind
+    → Result (List Visit) FaultKind
 leading next (Ok x) = Ok (next x)
 leading next (Err kind) = Err kind
 
 abbrev pub nowhere : {A : Type 0} → A → List Visit
 nowhere x = []
 
--- What an operation's reply tells, by what it was for: where it leads, or what is wrong. A ref that is gone by now is fine. Where the
--- operation failed, nothing was found.
+-- What an operation's reply tells, by what it was for: where it leads, or what is wrong. A ref that
+-- is gone by now is fine. Where the operation failed, nothing was found.
 abbrev pub told : Visit → Reply → Result (List Visit) FaultKind
 told (Refs part) (Is_listed l) = Ok (map (λ key. Ref key) (live l.entries))
 told (Ref key) (Is_got got) = leading behind_ref (found_ref got)

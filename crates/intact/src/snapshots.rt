@@ -15,7 +15,7 @@ use ice_ids::Id12;
 use repo_objects::Loaded;
 use std::marker::Model;
 use zarr_grid::chunk_bytes;
-use zarr_meta::View;
+use zarr_meta::MetaView;
 use zarr_tree::{Found, TreeLike, grid_law};
 
 /// A snapshot that is held, and the manifests in it that are still to be got, by a place in it. Contracts see what is left.
@@ -48,8 +48,8 @@ fn want_in(found: &Found<'_>) -> u64
 {
     grid_law();
     match &found.meta.view {
-        View::Array(array) => chunk_bytes(array.kind.size(), array.chunks.as_slice()),
-        View::Group => 0,
+        MetaView::Array(array) => chunk_bytes(array.kind.size(), array.chunks.as_slice()),
+        MetaView::Group => 0,
     }
 }
 

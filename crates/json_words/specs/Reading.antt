@@ -1,5 +1,6 @@
 -- What bytes stand for as JSON (RFC 8259), in the words of the crate that reads them.
-use Rattle.std.specs.Prelude.{ℕ, ℤ, ◌≡◌, List, [], ◌∷◌, Option, Some, IsUtf8, option_and_then, option_map}
+use Rattle.std.specs.Prelude.{ℕ, ℤ, ◌≡◌, List, [], ◌∷◌, Option, Some}
+use Rattle.std.specs.Prelude.{IsUtf8, option_and_then, option_map}
 use Rattle.serde_json.specs.Data.{Data, Items, no_items, item}
 use Rattle.serde_json.specs.Read.{read}
 use Rattle.serde_json.specs.Find.{get, as_number, as_u64, as_integer, as_str, as_array}
@@ -32,7 +33,8 @@ integer_number value = option_and_then as_integer (as_number value)
 abbrev pub whole_numbers : Items → Option (List ℕ)
 whole_numbers no_items = Some []
 whole_numbers (item value items) =
-    option_and_then (λ number. option_map (λ numbers. number ∷ numbers) (whole_numbers items)) (whole_number value)
+    option_and_then (λ number. option_map (λ numbers. number ∷ numbers) (whole_numbers items))
+    (whole_number value)
 
 -- the text of an object's member, where it has the member and that is a text
 abbrev pub text_member : List ℕ → Data → Option (List ℕ)

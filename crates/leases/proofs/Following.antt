@@ -1,11 +1,11 @@
 -- Laws of a play that another one follows.
-use Rattle.std.proofs.Common.{◌≡◌, ◌∙◌, ℕ, Bool, true, List, inl, inr, refl, sym, ap, subst}
+use Rattle.std.proofs.Common.{◌≡◌, ℕ, Bool, true, List, inl, inr, refl, ap, subst}
 use Rattle.std.specs.Prelude.{◌⊎◌}
 use Rattle.ice_base.specs.Ends.{Rose}
 use Rattle.object_store.specs.declared.events.Op.{Op}
 use Rattle.object_store.specs.declared.events.Event.{Event}
 use Rattle.store_api.specs.Callers.{Caller, View}
-use Rattle.store_api.specs.Plays.{Play, Ended, Ask, Or, IsLive, HasEnded, Comes, PlayKeeps, PlayLeads, PlayIsPolite, Acts, dooms}
+use Rattle.store_api.specs.Plays.{Play, Ended, Ask, Or, IsLive, Comes, PlayKeeps, PlayLeads, PlayIsPolite, Acts, dooms}
 use Rattle.leases.specs.Following.{followed}
 
 -- ---- where it stands

@@ -23,8 +23,8 @@ use Rattle.repo_read.proofs.NamingTold.{WasFailure-append}
 use Rattle.leases.specs.declared.lease.Leased.{Leased}
 use Rattle.leases.specs.declared.witness.Witness.{Witness}
 use Rattle.leases.specs.declared.witness.Witness.TheVariants as W
-use Rattle.leases.specs.Plays.{witness_key}
-use Rattle.leases.specs.Telling.{BranchWasAt, LeaseTells, PlacedOr, PlacedTells, ReleaseTells, UnplacedTells, WasConfirmed, WasNotAsked, WasPlaced, WasRefuted, leases, placing, releases}
+use Rattle.leases.specs.Plays.{leases, releases, witness_key}
+use Rattle.leases.specs.Telling.{BranchWasAt, LeaseTells, PlacedOr, PlacedTells, ReleaseTells, UnplacedTells, WasConfirmed, WasNotAsked, WasPlaced, WasRefuted, placing}
 
 module _ (by : Caller) (start journal more : List Event) (others : Each (IsOther by) journal more) where
   gets : MadeGets by.number start journal → MadeGets by.number start (journal ++ more)

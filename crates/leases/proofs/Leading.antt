@@ -27,8 +27,8 @@ use Rattle.repo_read.proofs.Namings.{failed-made}
 use Rattle.leases.specs.declared.lease.Leased.{Leased}
 use Rattle.leases.specs.declared.witness.Witness.{Witness}
 use Rattle.leases.specs.declared.witness.Witness.TheVariants as W
-use Rattle.leases.specs.Plays.{after_put, after_release, confirm_play, confirmed, has_none, lease_play, release_play, stands_at, witness_key}
-use Rattle.leases.specs.Telling.{BranchWasAt, LeaseTells, PlacedTells, ReleaseTells, WasPlaced, leases, placing, releases}
+use Rattle.leases.specs.Plays.{after_put, after_release, confirm_play, confirmed, has_none, lease_play, leases, release_play, releases, stands_at, witness_key}
+use Rattle.leases.specs.Telling.{BranchWasAt, LeaseTells, PlacedTells, ReleaseTells, WasPlaced, placing}
 use Rattle.leases.proofs.Replying.{gone-cases, none-stands}
 
 -- ---- own gets behind a put

@@ -1,5 +1,5 @@
--- The plays of a lease and of its release: what is put, what has to confirm it, and what is told at the end. (Own. A lease keeps what a session's
--- base reaches, while the session is open.)
+-- The plays of a lease and of its release: what is put, what has to confirm it, and what is told at
+-- the end. (Own. A lease keeps what a session's base reaches, while the session is open.)
 use Rattle.std.specs.Prelude.{◌==◌, if◌then◌else◌, Bool, false, Option, Some, None, Result, Ok, Err}
 use Rattle.ice_ids.specs.declared.Id12.{Id12}
 use Rattle.ref_file.specs.Refs.{ref_bytes}
@@ -7,13 +7,15 @@ use Rattle.object_store.specs.declared.keys.Key.{Key}
 use Rattle.object_store.specs.declared.keys.Key.TheVariants.{Branch, Tombstone, Lease}
 use Rattle.object_store.specs.declared.keys.Why.TheVariants.{Lease as For_lease}
 use Rattle.object_store.specs.declared.events.Version.{Version}
+use Rattle.object_store.specs.declared.events.Op.{Op}
 use Rattle.object_store.specs.declared.events.Op.TheVariants.{Get, PutNew, Remove}
 use Rattle.object_store.specs.declared.events.Got.TheVariants.{Found, Absent}
 use Rattle.object_store.specs.declared.events.New.TheVariants.{Done as New_done, Present}
 use Rattle.object_store.specs.declared.events.Reply.{Reply}
 use Rattle.object_store.specs.declared.events.Reply.TheVariants.{Got, New, Gone}
 use Rattle.store_api.specs.declared.machines.Refusal.{Refusal}
-use Rattle.store_api.specs.declared.machines.Refusal.TheVariants.{StoreFault, IdTaken, NoMemory, IdsSpent, Moved, Unnamed}
+use Rattle.store_api.specs.declared.machines.Refusal.TheVariants.{StoreFault, IdTaken, NoMemory}
+use Rattle.store_api.specs.declared.machines.Refusal.TheVariants.{IdsSpent, Moved, Unnamed}
 use Rattle.store_api.specs.Program.{is_fault}
 use Rattle.store_api.specs.Plays.{Play, Ended, Ask}
 use Rattle.session.specs.declared.origin.Origin.{Origin}
@@ -23,7 +25,8 @@ use Rattle.leases.specs.declared.witness.Witness.{Witness}
 use Rattle.leases.specs.declared.witness.Witness.TheVariants as W
 
 -- ---- what confirms a lease
--- the ref that named a session's base: a branch at the version at which it did, or a tag; the snapshot's own id is no ref
+-- the ref that named a session's base: a branch at the version at which it did, or a tag;
+-- the snapshot's own id is no ref
 abbrev pub witness_of : Origin → Option Witness
 witness_of (Writes tip) = Some (W.Branch tip)
 witness_of (ReadsBranch tip) = Some (W.Branch tip)
@@ -37,7 +40,8 @@ witness_key (W.Tag tag) = Tombstone tag
 
 -- a branch has to stand at this version
 abbrev pub stands_at : (wanted : Version) → Reply → Result (Unit {0}) Refusal
-stands_at wanted (Got (Found bytes version now)) = if version.0 == wanted.0 then Ok tt else Err (Moved (Some version))
+stands_at wanted (Got (Found bytes version now)) =
+    if version.0 == wanted.0 then Ok tt else Err (Moved (Some version))
 stands_at wanted (Got (Absent now)) = Err (Moved None)
 stands_at wanted _ = Err StoreFault
 
@@ -61,7 +65,8 @@ after_confirm id told reply = ends_with (Some id) (told reply)
 
 -- gets what has to confirm a lease that was put
 abbrev pub confirm_play : Id12 → Witness → Play Leased
-confirm_play id w = Ask (Get (witness_key w)) (ends_with (Some id) (Err NoMemory)) (after_confirm id (confirmed w))
+confirm_play id w =
+    Ask (Get (witness_key w)) (ends_with (Some id) (Err NoMemory)) (after_confirm id (confirmed w))
 
 -- behind the put of a lease; one that failed may have been done
 abbrev pub after_put : Id12 → Witness → Reply → Play Leased
@@ -69,10 +74,14 @@ after_put id w (New (New_done version now)) = confirm_play id w
 after_put id w (New (Present version now)) = ends_with None (Err (IdTaken (Lease id)))
 after_put id w _ = ends_with (Some id) (Err StoreFault)
 
--- Puts a lease with a reference to the base where its key is free, and then gets what has to confirm it. Without memory for the put nothing
--- stands; without memory for the get the lease does.
+-- a put of a lease with a reference to the base
+abbrev pub leases : Id12 → (base : Id12) → Op
+leases id base = PutNew (Lease id) (ref_bytes base) For_lease
+
+-- Puts a lease with a reference to the base where its key is free, and then gets what has to
+-- confirm it. Without memory for the put nothing stands; without memory for the get the lease does.
 abbrev pub lease_play : Id12 → (base : Id12) → Witness → Play Leased
-lease_play id base w = Ask (PutNew (Lease id) (ref_bytes base) For_lease) (ends_with None (Err NoMemory)) (after_put id w)
+lease_play id base w = Ask (leases id base) (ends_with None (Err NoMemory)) (after_put id w)
 
 -- how it may begin: a ref has to have named the base, and an id has to be left
 abbrev pub lease_with : Option Witness → Option Id12 → (base : Id12) → Result (Play Leased) Refusal
@@ -81,13 +90,17 @@ lease_with (Some w) None base = Err IdsSpent
 lease_with (Some w) (Some id) base = Ok (lease_play id base w)
 
 -- ---- a release
+-- the release of this lease
+abbrev pub releases : Id12 → Op
+releases id = Remove (Lease id) For_lease
+
 abbrev pub after_release : Reply → Play (Result (Unit {0}) Refusal)
 after_release (Gone gone) = Ended (Ok tt)
 after_release _ = Ended (Err StoreFault)
 
 -- removes a lease; an absent one is fine
 abbrev pub release_play : Id12 → Play (Result (Unit {0}) Refusal)
-release_play id = Ask (Remove (Lease id) For_lease) (Ended (Err NoMemory)) after_release
+release_play id = Ask (releases id) (Ended (Err NoMemory)) after_release
 
 -- ---- outcomes
 -- a fault of the store

@@ -15,7 +15,8 @@ use Rattle.leases.specs.Resting.{lease_rest}
 abbrev pub lease_of : SessionState → Result (Play Leased) Refusal
 lease_of s = lease_with (witness_of s.origin) (drawn12 s.ids) s.base
 
--- It begins, and the session has drawn its id; or this refuses it, and the session is as it was. Want of memory may come instead.
+-- It begins, and the session has drawn its id; or this refuses it, and the session is as it was.
+-- Want of memory may come instead.
 abbrev pub Starts : SessionState → Result Lease Refusal → SessionState → Type 0
 Starts s (Ok m) t = (lease_of s ≡ Ok (lease_rest m)) × (t ≡ after_draw s)
 Starts s (Err NoMemory) t = t ≡ s

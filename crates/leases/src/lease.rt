@@ -32,17 +32,18 @@ pub struct Lease {
 }
 
 impl Lease {
-    ghost use Rattle.std.specs.Prelude.{◌≡◌, ◌<◌, false, IsTrue, IfErr};
+    ghost use Rattle.std.specs.Prelude.{◌≡◌, ◌<◌, false, None, Err, IsTrue, IfErr};
     ghost use Rattle.store_api.specs.Plays.{Ended, IsLive, HasEnded, Acts, PlayIsPolite};
-    ghost use Rattle.leases.specs.Plays.{MayRefuseStart, tells_fault};
+    ghost use Rattle.leases.specs.Plays.{MayRefuseStart, tells_fault, witness_of};
     ghost use Rattle.leases.specs.Starting.{Starts};
     ghost use Rattle.leases.specs.Resting.{lease_rest, lease_left};
 
     /// Begins a lease of the session's base, under the next id that the session draws. It is refused by `Unnamed` where the
-    /// session was opened by the snapshot's own id, so that no ref can confirm it; by `IdsSpent`; or by `NoMemory`. Then the
-    /// session is as it was.
+    /// session was opened by the snapshot's own id, so that no ref can confirm it, which takes no memory; by `IdsSpent`; or by
+    /// `NoMemory`. Then the session is as it was.
     pub fn start(alloc: Global, session: &mut Session) -> Result<Lease, Refusal>
         ensures starts { Starts session.old result session.new }
+        ensures unnamed { witness_of session.old.origin ≡ None → result ≡ Err Refusal.Unnamed }
         ensures listed { IfErr result MayRefuseStart }
     {
         let Ok(named) = Witness::of(alloc, session.origin()) else {

@@ -1,6 +1,6 @@
 //! What confirms a lease.
 
-ghost use Rattle.std.specs.Prelude.{◌≡◌, IfOk};
+ghost use Rattle.std.specs.Prelude.{◌≡◌, IfOk, IsSome, MatchResult};
 ghost use Rattle.leases.specs.Plays.{witness_of};
 
 use ice_base::RefName;
@@ -28,9 +28,10 @@ fn copy_tip(alloc: Global, tip: &Tip) -> Result<Tip, AllocError>
 }
 
 impl Witness {
-    /// What confirms a lease of the base that this named; where its own id named it, nothing does.
+    /// What confirms a lease of the base that this named; where its own id named it, nothing does, and that takes no memory.
     pub(crate) fn of(alloc: Global, origin: &Origin) -> Result<Option<Witness>, AllocError>
-        ensures { IfOk result (λ witness. witness ≡ witness_of origin.now) }
+        ensures { MatchResult result (λ witness. witness ≡ witness_of origin.now)
+            (λ _. IsSome (witness_of origin.now)) }
     {
         match origin {
             Origin::Writes(tip) => Ok(Some(Witness::Branch(copy_tip(alloc, tip)?))),

@@ -1,7 +1,8 @@
 -- What a listing tells of the refs that stand (own).
 use Rattle.std.specs.Prelude.{◌≡◌, ◌↔◌, ℕ, List, Option, Some, None, slice_get}
 use Rattle.object_store.specs.declared.keys.Key.{Key}
-use Rattle.object_store.specs.declared.keys.Key.TheVariants.{Snapshot, Manifest, Txn, Chunk, Branch, Tag, Tombstone, Lease}
+use Rattle.object_store.specs.declared.keys.Key.TheVariants.{Snapshot, Manifest, Txn, Chunk}
+use Rattle.object_store.specs.declared.keys.Key.TheVariants.{Branch, Tag, Tombstone, Lease}
 use Rattle.object_store.specs.declared.keys.Part.{Part}
 use Rattle.object_store.specs.declared.events.Entry.{Entry}
 use Rattle.object_store.specs.Machine.{Stored, part_of, IsListing}
@@ -30,6 +31,9 @@ pub record IsRefIn (at : Key → Option Stored) (part : Part) (key : Key) : Type
   pub part_is : part_of key ≡ part
   pub not_gone : IsNotGone at key
 
--- Of an honest listing, the keys whose refs are got are those that stand, and of tags those that have no tombstone.
+-- Of an honest listing, the keys whose refs are got are those that stand, and of
+-- tags those that have no tombstone.
 abbrev pub LiveLaw : Type 0
-LiveLaw = (at : Key → Option Stored) (part : Part) (entries : List Entry) → IsListing at part entries → (key : Key) → (HasKey (live entries) key ↔ IsRefIn at part key)
+LiveLaw =
+    (at : Key → Option Stored) (part : Part) (entries : List Entry) → IsListing at part entries
+    → (key : Key) → (HasKey (live entries) key ↔ IsRefIn at part key)

@@ -17,8 +17,9 @@ pub record IsOfCheck (journal : List Event) (event : Event) : Type 0 where
   pub client : event.client ≡ 1
   pub reads : IsRead event.op
 
--- From old to new there were the check's own operations with their answers, which play it to its outcome, and no others. Where the store tells its
--- journal, that goes on by exactly these, and the outcome tells it. A fault of the store is told only where the count of faults rose.
+-- From old to new there were the check's own operations with their answers, which play it to its
+-- outcome, and no others. Where the store tells its journal, that goes on by exactly these, and the
+-- outcome tells it. A fault of the store is told only where the count of faults rose.
 pub record WasChecked (old new : View) (outcome : Outcome) : Type 0 where
   pub own : List Event
   pub plays : PlaysTo (check_task 0) own outcome

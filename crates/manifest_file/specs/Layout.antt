@@ -4,7 +4,8 @@ use Rattle.std.specs.List.{AllByRecursion}
 use Rattle.flat_tables.specs.declared.header.Kind.TheVariants as kinds
 use Rattle.flat_tables.specs.Header.{header}
 use Rattle.flat_tables.specs.Rows.{Ascends}
-use Rattle.flat_tables.specs.Layout.{Part, Block, absent, scalar, offset_to, tables_block, table_block, payload}
+use Rattle.flat_tables.specs.Layout.{Part, Block, absent, scalar, offset_to}
+use Rattle.flat_tables.specs.Layout.{tables_block, table_block, payload}
 use Rattle.ice_base.specs.Lists.{IsBytes}
 use Rattle.ice_ids.specs.Text.{IsId8, IsId12}
 use Rattle.file_fields.specs.Fields.{id8_part, id12_part, index_part, bytes_part, IsIndex}
@@ -17,8 +18,10 @@ use Rattle.manifest_file.specs.Manifests.{refs_limit, refs_of, ref_key, array_ke
 
 -- table ChunkRef: the slots behind the index; the last three are never written
 abbrev pub place_parts : Place → List Part
-place_parts (Inline bytes) = bytes_part bytes ∷ absent ∷ absent ∷ absent ∷ absent ∷ absent ∷ absent ∷ []
-place_parts (Object id offset size) = absent ∷ scalar 8 offset ∷ scalar 8 size ∷ id12_part id ∷ absent ∷ absent ∷ absent ∷ []
+place_parts (Inline bytes) =
+    bytes_part bytes ∷ absent ∷ absent ∷ absent ∷ absent ∷ absent ∷ absent ∷ []
+place_parts (Object id offset size) =
+    absent ∷ scalar 8 offset ∷ scalar 8 size ∷ id12_part id ∷ absent ∷ absent ∷ absent ∷ []
 
 abbrev pub ref_parts : ChunkRef → List Part
 ref_parts chunk = index_part chunk.index ∷ place_parts chunk.place
@@ -50,7 +53,8 @@ manifest_block manifest = table_block (manifest_parts manifest)
 unfoldable pub file_bytes : ManifestFile → List ℕ
 file_bytes manifest = header kinds.Manifest ++ payload (manifest_block manifest)
 
--- what can be written: arrays strictly ascend, so do the chunks of each, and there are no more chunks than the limit
+-- what can be written: arrays strictly ascend, so do the chunks of each, and there
+-- are no more chunks than the limit
 abbrev pub RefsAscend : ArrayRefs → Type 0
 RefsAscend array = Ascends ref_key None array.refs
 
@@ -59,7 +63,8 @@ pub record CanWrite (manifest : ManifestFile) : Type 0 where
   pub refs : AllByRecursion RefsAscend manifest.arrays
   pub few : refs_of manifest.arrays ≤ refs_limit
 
--- what the types say of a manifest: ids are 12 or 8 bytes, numbers have their width, and a chunk's bytes are bytes
+-- what the types say of a manifest: ids are 12 or 8 bytes, numbers have their
+-- width, and a chunk's bytes are bytes
 abbrev pub IsPlace : Place → Type 0
 IsPlace (Inline bytes) = IsBytes bytes
 IsPlace (Object id offset size) = IsId12 id × (offset < 2 ^ 64) × (size < 2 ^ 64)

@@ -1,11 +1,12 @@
--- What the payload of a manifest says. (Icechunk specification version 1, "Manifests"; which slot has what, that lists
--- stand in order, and the limit are own.)
+-- What the payload of a manifest says. (Icechunk specification version 1, "Manifests"; which slot
+-- has what, that lists stand in order, and the limit are own.)
 use Rattle.std.specs.Prelude.{ℕ, ◌+◌, List, [], length, sum_by, Option, Some, None, Result, Ok, Err}
 use Rattle.flat_tables.specs.declared.header.Kind.TheVariants as kinds
 use Rattle.flat_tables.specs.declared.fault.FileFault.{FileFault}
 use Rattle.flat_tables.specs.declared.fault.FileFault.TheVariants.{VirtualRef, RefKind}
 use Rattle.flat_tables.specs.Step.{◌>>=◌}
-use Rattle.flat_tables.specs.Places.{TableIn, VectorIn, root_of, struct_of, scalar_of, text_of, vector_of, all_of, table_of}
+use Rattle.flat_tables.specs.Places.{TableIn, VectorIn, root_of, struct_of}
+use Rattle.flat_tables.specs.Places.{scalar_of, text_of, vector_of, all_of, table_of}
 use Rattle.flat_tables.specs.Rows.{flat, required, optional, at_most, rows, each, in_order}
 use Rattle.flat_tables.specs.File.{file_of}
 use Rattle.file_fields.specs.Fields.{id_key, index_key, id8_of, id12_of, index_of}
@@ -30,7 +31,8 @@ abbrev pub array_key : ArrayRefs → List ℕ
 array_key array = id_key array.node
 
 -- where element `at` has its bytes: no other place, and either in the manifest or in an object
-abbrev pub place_of : ℕ → Option (List ℕ) → Option VectorIn → ℕ → ℕ → Option (List ℕ) → Result Place FileFault
+abbrev pub place_of : ℕ → Option (List ℕ) → Option VectorIn → ℕ → ℕ → Option (List ℕ)
+    → Result Place FileFault
 place_of at (Some location) inline offset size object = Err (VirtualRef at)
 place_of at None (Some inline) offset size None = Ok (Inline (all_of inline))
 place_of at None None offset size (Some id) = Ok (Object (record { 0 = id }) offset size)

@@ -11,7 +11,7 @@ use Rattle.manifest_file.specs.declared.manifest.Place.{Place}
 use Rattle.manifest_file.specs.declared.manifest.ChunkRef.{ChunkRef}
 use Rattle.manifest_file.specs.declared.manifest.ArrayRefs.{ArrayRefs}
 use Rattle.held_manifest.specs.LookUp.{Listed, within, place_of, refs_of_node, entry_of, entry_seen, look_up}
-use Rattle.manifest_index.specs.Merging.{Change, changed_at, merged, ListsChunk, IsFrom}
+use Rattle.manifest_index.specs.Merging.{ChunkChange, changed_at, merged, ListsChunk, IsFrom}
 
 -- ---- what is found in a list is there
 
@@ -94,19 +94,19 @@ listed_from node q place (m ∷ ms) e = by_seen (entry_seen node q m) refl e (λ
 
 -- ---- in the change, or there
 
-changed_from : (node : Id8) (old : List Listed) (change : List Change) (q : List ℕ) (place : Place) → unwrap_or (changed_at q change) (look_up node q old) ≡ Some place → IsFrom node old change (chunk_of q place)
+changed_from : (node : Id8) (old : List Listed) (change : List ChunkChange) (q : List ℕ) (place : Place) → unwrap_or (changed_at q change) (look_up node q old) ≡ Some place → IsFrom node old change (chunk_of q place)
 changed_from node old change q place e = by_change (changed_at q change) refl e
   where
     by_change : (o : Option (Option Place)) → changed_at q change ≡ o → unwrap_or o (look_up node q old) ≡ Some place → IsFrom node old change (chunk_of q place)
     by_change (Some p) c h =
-        let entry = some_mapped (λ (x : Change). x.1) (find (λ (x : Change). bytes_eq x.0 q) change) p c in
-        let found = found_in (λ (x : Change). bytes_eq x.0 q) change entry.0 entry.1 in
+        let entry = some_mapped (λ (x : ChunkChange). x.1) (find (λ (x : ChunkChange). bytes_eq x.0 q) change) p c in
+        let found = found_in (λ (x : ChunkChange). bytes_eq x.0 q) change entry.0 entry.1 in
         let index : entry.0.0 ≡ q = (bytes_eq-Decides entry.0.0 q).0 found.passes in
         let there : entry.0.1 ≡ Some place = entry.2 ∙ h in
-        let same : entry.0 ≡ (let x : Change = (q, Some place) in x) = λ i. (index i, there i) in
+        let same : entry.0 ≡ (let x : ChunkChange = (q, Some place) in x) = λ i. (index i, there i) in
         inl (subst (Contains change) same found.among)
     by_change None c h = inr (listed_from node q place old h)
 
-pub merged_from : (rank : ℕ) (node : Id8) (old : List Listed) (change : List Change) (q : List ℕ) (place : Place) → merged rank node old change q ≡ Some place → IsFrom node old change (chunk_of q place)
+pub merged_from : (rank : ℕ) (node : Id8) (old : List Listed) (change : List ChunkChange) (q : List ℕ) (place : Place) → merged rank node old change q ≡ Some place → IsFrom node old change (chunk_of q place)
 merged_from rank node old change q place e =
     changed_from node old change q place (inside_is (nat_eq (length q) rank) (unwrap_or (changed_at q change) (look_up node q old)) place e)

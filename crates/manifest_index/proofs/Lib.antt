@@ -8,3 +8,4 @@ pub mod From
 pub mod Least
 pub mod MergedLaws
 pub mod Calls
+pub mod Entering

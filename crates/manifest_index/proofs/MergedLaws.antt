@@ -23,7 +23,7 @@ use Rattle.manifest_file.specs.declared.manifest.ChunkRef.{ChunkRef}
 use Rattle.manifest_file.specs.declared.manifest.ArrayRefs.{ArrayRefs}
 use Rattle.manifest_file.specs.Manifests.{ref_key}
 use Rattle.held_manifest.specs.LookUp.{Listed, within, place_of, entry_of, entry_seen, look_up}
-use Rattle.manifest_index.specs.Merging.{Change, changed_at, merged, places_after, entry_chunk, array_with, merged_array, IsMerged, IsFrom}
+use Rattle.manifest_index.specs.Merging.{ChunkChange, changed_at, merged, places_after, entry_chunk, array_with, merged_array, IsMerged, IsFrom}
 use Rattle.manifest_index.specs.Extents.{extents_for}
 use Rattle.manifest_index.specs.Laws.{MergedLaw, list_of, IsNewList, NewListLaw}
 use Rattle.manifest_index.specs.inside.Chunks.{chunk_at, AreRows}
@@ -36,17 +36,17 @@ use Rattle.manifest_index.proofs.Least.{extents_are_least}
 
 -- ---- the chunks after a change
 
-abbrev pub after : ℕ → Id8 → List Listed → List Change → Entries
+abbrev pub after : ℕ → Id8 → List Listed → List ChunkChange → Entries
 after rank node old change = entries (places_after rank node old change)
 
-after_sorted : (rank : ℕ) (node : Id8) (old : List Listed) (change : List Change) → IsStrictlySortedBy index_cmp (keys_of (after rank node old change))
+after_sorted : (rank : ℕ) (node : Id8) (old : List Listed) (change : List ChunkChange) → IsStrictlySortedBy index_cmp (keys_of (after rank node old change))
 after_sorted rank node old change = keys_sorted (after rank node old change) (entries_sorted (places_after rank node old change))
 
-after_placed : (rank : ℕ) (node : Id8) (old : List Listed) (change : List Change) (q : List ℕ) → place_of q (map entry_chunk (after rank node old change)) ≡ merged rank node old change q
+after_placed : (rank : ℕ) (node : Id8) (old : List Listed) (change : List ChunkChange) (q : List ℕ) → place_of q (map entry_chunk (after rank node old change)) ≡ merged rank node old change q
 after_placed rank node old change q =
     rows_found (after rank node old change) q ∙ found_same (after rank node old change) q ∙ after_found rank node old change q
 
-with_refs : (rank : ℕ) (node : Id8) (old : List Listed) (change : List Change) (refs : List ChunkRef) → Ascends ref_key None refs
+with_refs : (rank : ℕ) (node : Id8) (old : List Listed) (change : List ChunkChange) (refs : List ChunkRef) → Ascends ref_key None refs
     → ((q : List ℕ) → place_of q refs ≡ merged rank node old change q) → IsMerged rank node old change (array_with node refs)
 with_refs rank node old change [] ascend are = λ q. sym (are q)
 with_refs rank node old change (r ∷ rs) ascend are = (refl, omega arith, ascend, are)
@@ -55,7 +55,7 @@ if_refs : (Q : ChunkRef → Type 0) (node : Id8) (refs : List ChunkRef) → All 
 if_refs Q node [] all = tt
 if_refs Q node (r ∷ rs) all = all
 
-each_is_from : (rank : ℕ) (node : Id8) (old : List Listed) (change : List Change) → All (IsFrom node old change) (map entry_chunk (after rank node old change))
+each_is_from : (rank : ℕ) (node : Id8) (old : List Listed) (change : List ChunkChange) → All (IsFrom node old change) (map entry_chunk (after rank node old change))
 each_is_from rank node old change = λ j d below.
     let es : Entries = after rank node old change in
     let e : List ℕ × Place = (d.index, d.place) in
@@ -77,7 +77,7 @@ merged_is_law = record {
 
 -- ---- the call's chunks are those
 
-pub refs_are : (rank : ℕ) (node : Id8) (old : List Listed) (change : List Change) (chunks : BTreeMap (List ℕ) Place) (refs : List ChunkRef) → AreRows chunks refs
+pub refs_are : (rank : ℕ) (node : Id8) (old : List Listed) (change : List ChunkChange) (chunks : BTreeMap (List ℕ) Place) (refs : List ChunkRef) → AreRows chunks refs
     → ((q : List ℕ) → chunk_at q chunks ≡ merged rank node old change q) → array_with node refs ≡ merged_array rank node old change
 unfolding merged_array
 refs_are rank node old change chunks refs rows are =
@@ -114,7 +114,7 @@ seen_in rank id array q false e inside = by_place (place_of q array.refs) refl
         let no : false ≡ true = sym e ∙ here in
         absurd cc
 
-list_finds : (rank : ℕ) (node : Id8) (old : List Listed) (change : List Change) (array : ArrayRefs) → IsMerged rank node old change (Some array) → All (λ r. length r.index ≡ rank) array.refs → IsNewList rank node old change (Some array)
+list_finds : (rank : ℕ) (node : Id8) (old : List Listed) (change : List ChunkChange) (array : ArrayRefs) → IsMerged rank node old change (Some array) → All (λ r. length r.index ≡ rank) array.refs → IsNewList rank node old change (Some array)
 list_finds rank node old change array is ranks = λ id q.
     let refs : List ChunkRef = array.refs in
     let own : same_id8 array.node node ≡ true = ap (λ (n : Id8). same_id8 n node) is.0 ∙ same_id8-self node in
@@ -130,7 +130,7 @@ list_finds rank node old change array is ranks = λ id q.
     same_rank true p = refl
     same_rank false p = refl
 
-by_array : (rank : ℕ) (node : Id8) (old : List Listed) (change : List Change) (m : Option ArrayRefs) → IsMerged rank node old change m → IfSome m (λ array. All (λ r. length r.index ≡ rank) array.refs) → IsNewList rank node old change m
+by_array : (rank : ℕ) (node : Id8) (old : List Listed) (change : List ChunkChange) (m : Option ArrayRefs) → IsMerged rank node old change m → IfSome m (λ array. All (λ r. length r.index ≡ rank) array.refs) → IsNewList rank node old change m
 by_array rank node old change None is ranks = is
 by_array rank node old change (Some array) is ranks = list_finds rank node old change array is ranks
 

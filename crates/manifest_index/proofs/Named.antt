@@ -14,7 +14,7 @@ use Rattle.ice_ids.specs.declared.Id8.{Id8}
 use Rattle.manifest_file.specs.declared.manifest.Place.{Place}
 use Rattle.manifest_file.specs.declared.manifest.ChunkRef.{ChunkRef}
 use Rattle.held_manifest.specs.LookUp.{Listed, within, place_of, refs_of_node, entry_seen, look_up}
-use Rattle.manifest_index.specs.Merging.{Change, merged, indices_in, indices_named, entry_after, places_after}
+use Rattle.manifest_index.specs.Merging.{ChunkChange, merged, indices_in, indices_named, entry_after, places_after}
 use Rattle.manifest_index.proofs.Collected.{same_back}
 
 -- an index is one of these
@@ -34,10 +34,10 @@ no_right false b h = h
 
 -- ---- what isn't named is nowhere
 
-unchanged : (q : List ℕ) (change : List Change) → is_named q (map (λ (c : Change). c.0) change) ≡ false → find (λ (c : Change). bytes_eq c.0 q) change ≡ None
+unchanged : (q : List ℕ) (change : List ChunkChange) → is_named q (map (λ (c : ChunkChange). c.0) change) ≡ false → find (λ (c : ChunkChange). bytes_eq c.0 q) change ≡ None
 unchanged q [] h = refl
 unchanged q (c ∷ cs) h =
-    ap (λ b. cond b (Some c) (find (λ (x : Change). bytes_eq x.0 q) cs)) (sym (same_test q c.0) ∙ no_left _ _ h) ∙ unchanged q cs (no_right _ _ h)
+    ap (λ b. cond b (Some c) (find (λ (x : ChunkChange). bytes_eq x.0 q) cs)) (sym (same_test q c.0) ∙ no_left _ _ h) ∙ unchanged q cs (no_right _ _ h)
 
 unfound : (q : List ℕ) (refs : List ChunkRef) → is_named q (map (λ (r : ChunkRef). r.index) refs) ≡ false → find (λ (r : ChunkRef). bytes_eq r.index q) refs ≡ None
 unfound q [] h = refl
@@ -62,11 +62,11 @@ unlisted node q (m ∷ ms) h =
     sym (list_any-append (eq_by_cmp index_cmp q) (indices_in node m.1) (flat_map (λ (x : Listed). indices_in node x.1) ms)) ∙ h in
     ap (λ (p : Option Place). option_or p (look_up node q ms)) (unseen node q m (no_left _ _ split)) ∙ unlisted node q ms (no_right _ _ split)
 
-unnamed : (rank : ℕ) (node : Id8) (old : List Listed) (change : List Change) (q : List ℕ) → is_named q (indices_named node old change) ≡ false → merged rank node old change q ≡ None
+unnamed : (rank : ℕ) (node : Id8) (old : List Listed) (change : List ChunkChange) (q : List ℕ) → is_named q (indices_named node old change) ≡ false → merged rank node old change q ≡ None
 unnamed rank node old change q h =
-    let split : (is_named q (map (λ (c : Change). c.0) change) || is_named q (flat_map (λ (m : Listed). indices_in node m.1) old)) ≡ false =
-    sym (list_any-append (eq_by_cmp index_cmp q) (map (λ (c : Change). c.0) change) (flat_map (λ (m : Listed). indices_in node m.1) old)) ∙ h in
-    ap (λ (c : Option Change). cond (nat_eq (length q) rank) (unwrap_or (option_map (λ (x : Change). x.1) c) (look_up node q old)) None) (unchanged q change (no_left _ _ split))
+    let split : (is_named q (map (λ (c : ChunkChange). c.0) change) || is_named q (flat_map (λ (m : Listed). indices_in node m.1) old)) ≡ false =
+    sym (list_any-append (eq_by_cmp index_cmp q) (map (λ (c : ChunkChange). c.0) change) (flat_map (λ (m : Listed). indices_in node m.1) old)) ∙ h in
+    ap (λ (c : Option ChunkChange). cond (nat_eq (length q) rank) (unwrap_or (option_map (λ (x : ChunkChange). x.1) c) (look_up node q old)) None) (unchanged q change (no_left _ _ split))
     ∙ ap (λ (p : Option Place). cond (nat_eq (length q) rank) p None) (unlisted node q old (no_right _ _ split))
     ∙ either_none (nat_eq (length q) rank)
 
@@ -107,7 +107,7 @@ found_among f (k ∷ ks) q = by_value (f k) refl (eq_by_cmp index_cmp q k) refl 
     by_value None e true t rest = here e ∙ rest ∙ if_none (is_named q ks) (f q) (ap f (sym (tied q k t)) ∙ e) ∙ there t
     by_value None e false t rest = here e ∙ rest ∙ there t
 
-pub after_found : (rank : ℕ) (node : Id8) (old : List Listed) (change : List Change) (q : List ℕ)
+pub after_found : (rank : ℕ) (node : Id8) (old : List Listed) (change : List ChunkChange) (q : List ℕ)
     → finite.find index_cmp q (finite.entries (places_after rank node old change)) ≡ merged rank node old change q
 after_found rank node old change q =
     sym (finite.get-entries (places_after rank node old change) q)

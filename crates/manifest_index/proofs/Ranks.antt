@@ -7,7 +7,7 @@ use Rattle.ice_ids.specs.declared.Id8.{Id8}
 use Rattle.zarr_path.proofs.PathLaws.{by_numbers}
 use Rattle.manifest_file.specs.declared.manifest.ChunkRef.{ChunkRef}
 use Rattle.held_manifest.specs.LookUp.{Listed, place_of, look_up}
-use Rattle.manifest_index.specs.Merging.{Change, changed_at, merged}
+use Rattle.manifest_index.specs.Merging.{ChunkChange, changed_at, merged}
 
 first_found : (b : Bool) (x : ChunkRef) (found : Option ChunkRef) → b ≡ true → option_map (λ (r : ChunkRef). r.place) (cond b (Some x) found) ≡ None → true ≡ false
 first_found true x found e none = cc
@@ -26,7 +26,7 @@ is_found (x ∷ xs) (suc j) d below none =
     let index : List ℕ = (slice_index_or xs j d).index in
     is_found xs j d (omega (arith, below)) (later_none (bytes_eq x.index index) x (find (λ (r : ChunkRef). bytes_eq r.index index) xs) none)
 
-pub each_ranked : (rank : ℕ) (node : Id8) (old : List Listed) (change : List Change) (refs : List ChunkRef)
+pub each_ranked : (rank : ℕ) (node : Id8) (old : List Listed) (change : List ChunkChange) (refs : List ChunkRef)
     → ((q : List ℕ) → place_of q refs ≡ merged rank node old change q) → All (λ r. length r.index ≡ rank) refs
 each_ranked rank node old change refs are = λ j d below. by_rank j d below (nat_eq (length (slice_index_or refs j d).index) rank) refl
   where

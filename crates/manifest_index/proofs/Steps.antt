@@ -9,7 +9,7 @@ use Rattle.ice_ids.specs.declared.Id8.{Id8}
 use Rattle.manifest_file.specs.declared.manifest.Place.{Place}
 use Rattle.manifest_file.specs.declared.manifest.ChunkRef.{ChunkRef}
 use Rattle.held_manifest.specs.LookUp.{Listed, within, place_of, look_up}
-use Rattle.manifest_index.specs.Merging.{Change, changed_at, merged}
+use Rattle.manifest_index.specs.Merging.{ChunkChange, changed_at, merged}
 use Rattle.manifest_index.specs.inside.Chunks.{ranked}
 
 some_is : {A : Type 0} (x y : A) → (let o : Option A = Some x in o) ≡ Some y → x ≡ y
@@ -49,7 +49,7 @@ merged_by : (rank : Bool) (change : Option (Option Place)) (old : Option Place) 
 merged_by true change old = refl
 merged_by false change old = refl
 
-pub merged_is : (rank : ℕ) (node : Id8) (old : List Listed) (change : List Change) (q : List ℕ) (now mid : Option Place)
+pub merged_is : (rank : ℕ) (node : Id8) (old : List Listed) (change : List ChunkChange) (q : List ℕ) (now mid : Option Place)
     → now ≡ cond (nat_eq (length q) rank) (unwrap_or (changed_at q change) mid) mid
     → mid ≡ ranked rank q (look_up node q old)
     → now ≡ merged rank node old change q

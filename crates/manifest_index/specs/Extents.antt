@@ -1,5 +1,6 @@
 -- The least extents of some chunks.
-use Rattle.std.specs.Prelude.{◌≡◌, ◌<◌, ◌≤◌, ◌+◌, ℕ, Bool, true, List, [], ◌∷◌, length, map, min, max, nat_lt, slice_index, All, HoldsAt}
+use Rattle.std.specs.Prelude.{◌≡◌, ◌<◌, ◌≤◌, ◌+◌, ℕ, Bool, true, List, [], ◌∷◌}
+use Rattle.std.specs.Prelude.{length, map, min, max, nat_lt, slice_index, All, HoldsAt}
 use Rattle.std.specs.List.{slice_index_or, list_all, fold, range_with_len}
 use Rattle.manifest_file.specs.declared.manifest.ChunkRef.{ChunkRef}
 use Rattle.held_manifest.specs.LookUp.{within}
@@ -29,12 +30,15 @@ extents_for rank refs = map (λ k. extent_for k refs) (range_with_len 0 rank)
 abbrev pub Has : {X : Type 0} → (X → Type 0) → List X → Type 0
 Has P xs = (k : ℕ) × (k < length xs) × HoldsAt P xs k
 
--- the least extent in dimension k: it contains the number of each chunk, begins at that of one, and ends one past that of one
+-- the least extent in dimension k: it contains the number of each chunk, begins at that of
+-- one, and ends one past that of one
 abbrev pub IsExtent : ℕ → List ChunkRef → ℕ × ℕ → Type 0
 IsExtent k refs e = All (λ r. (e.0 ≤ slice_index r.index k) × (slice_index r.index k < e.1)) refs
     × Has (λ r. slice_index r.index k ≡ e.0) refs × Has (λ r. slice_index r.index k + 1 ≡ e.1) refs
 
 -- an extent for each dimension, the least one; together they contain the index of each chunk
 abbrev pub AreExtents : ℕ → List ChunkRef → List (ℕ × ℕ) → Type 0
-AreExtents rank refs extents = (length extents ≡ rank) × ((k : ℕ) (e : ℕ × ℕ) → k < rank → IsExtent k refs (slice_index_or extents k e))
+AreExtents rank refs extents =
+    (length extents ≡ rank)
+    × ((k : ℕ) (e : ℕ × ℕ) → k < rank → IsExtent k refs (slice_index_or extents k e))
     × All (λ r. within extents r.index ≡ true) refs

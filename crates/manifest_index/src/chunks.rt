@@ -32,7 +32,7 @@ pub(crate) fn set(chunks: &mut Chunks, index: Index, place: Option<Place>) -> Re
 pub(crate) fn into_refs(alloc: Global, chunks: Chunks) -> Result<Items<ChunkRef>, AllocError>
     ensures { IfOk result (AreRows chunks) }
 {
-    let mut refs = Items::new(alloc);
+    let mut refs = Items::from_vec(Vec::with_capacity(alloc, chunks.len())?);
     for (index, place) in chunks {
         refs.push(ChunkRef { index, place })?;
     }

@@ -29,27 +29,3 @@ pub(crate) fn own_place(alloc: Global, place: PlaceView<'_>) -> Result<Place, Al
         PlaceView::Object { id, offset, length } => Ok(Place::Object { id, offset, length }),
     }
 }
-
-/// The same place once more.
-fn copy_place(alloc: Global, place: &Place) -> Result<Place, AllocError>
-    ensures { IfOk result (λ copy. copy ≡ place.now) }
-{
-    match place {
-        Place::Inline(bytes) => Ok(Place::Inline(bytes.copy(alloc)?)),
-        Place::Object { id, offset, length } => Ok(Place::Object {
-            id: *id,
-            offset: *offset,
-            length: *length,
-        }),
-    }
-}
-
-/// The same place once more, if there is one.
-pub(crate) fn copy_change(alloc: Global, place: &Option<Place>) -> Result<Option<Place>, AllocError>
-    ensures { IfOk result (λ copy. copy ≡ place.now) }
-{
-    match place {
-        Some(place) => Ok(Some(copy_place(alloc, place)?)),
-        None => Ok(None),
-    }
-}

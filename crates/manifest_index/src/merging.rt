@@ -8,7 +8,7 @@ ghost use Rattle.manifest_index.specs.Merging.{changed_at, merged_array, IsMerge
 ghost use Rattle.manifest_index.specs.inside.Chunks.{chunk_at, ranked, IsSized};
 
 use crate::chunks::{Chunks, into_refs, set};
-use crate::copies::{copy_change, own_index, own_place};
+use crate::copies::{own_index, own_place};
 use held_manifest::{HeldManifest, RefView, Refs, is_within};
 use ice_ids::Id8;
 use ice_items::Items;
@@ -119,36 +119,34 @@ fn old_chunks(
 
 /// Enters what a change says of one index, if that has the rank.
 fn enter_change(
-    alloc: Global,
     chunks: &mut Chunks,
     rank: usize,
-    change: &(Index, Option<Place>),
+    change: (Index, Option<Place>),
 ) -> Result<(), AllocError>
     ensures { OnOk result ((q : List ℕ)
         → chunk_at q chunks.new
-        ≡ (if (length q == rank) && bytes_eq change.now.0 q then change.now.1 else chunk_at q
+        ≡ (if (length q == rank) && bytes_eq change.0 q then change.1 else chunk_at q
         chunks.old)) }
 {
     let (index, place) = change;
     if index.parts().len() != rank {
         return Ok(());
     }
-    set(chunks, index.copy(alloc)?, copy_change(alloc, place)?)
+    set(chunks, index, place)
 }
 
-/// Enters a change. The first entry of an index counts.
+/// Enters a change. The first entry of an index counts, so it is entered last.
 fn enter_changes(
-    alloc: Global,
     chunks: &mut Chunks,
     rank: usize,
-    change: &[(Index, Option<Place>)],
+    mut change: Vec<(Index, Option<Place>)>,
 ) -> Result<(), AllocError>
     ensures { OnOk result ((q : List ℕ)
-        → chunk_at q chunks.new ≡ (if length q == rank then unwrap_or (changed_at q change.now)
+        → chunk_at q chunks.new ≡ (if length q == rank then unwrap_or (changed_at q change.items)
         (chunk_at q chunks.old) else chunk_at q chunks.old)) }
 {
-    for k in (0..change.len()).rev() {
-        enter_change(alloc, chunks, rank, &change[k])?;
+    while let Some(last) = change.pop() {
+        enter_change(chunks, rank, last)?;
     }
     Ok(())
 }
@@ -168,18 +166,18 @@ pub fn merge(
     rank: usize,
     node: Id8,
     old: &[(Items<(u32, u32)>, HeldManifest)],
-    change: &[(Index, Option<Place>)],
+    change: Vec<(Index, Option<Place>)>,
 ) -> Result<Option<ArrayRefs>, AllocError>
-    requires { All (λ c. IsTrue (are_low c.0)) change.now }
-    ensures is { IfOk result (λ found. found ≡ merged_array rank node old.now change.now) }
-    ensures merged { IfOk result (IsMerged rank node old.now change.now) }
+    requires { All (λ c. IsTrue (are_low c.0)) change.items }
+    ensures is { IfOk result (λ found. found ≡ merged_array rank node old.now change.items) }
+    ensures merged { IfOk result (IsMerged rank node old.now change.items) }
     ensures ranks { IfOk result
         (λ merged. IfSome merged (λ array. All (λ r. length r.index ≡ rank) array.refs)) }
     ensures low { IfOk result
         (λ merged. IfSome merged (λ array. All (λ r. IsTrue (are_low r.index)) array.refs)) }
 {
     let mut chunks = old_chunks(alloc, rank, node, old)?;
-    enter_changes(alloc, &mut chunks, rank, change)?;
+    enter_changes(&mut chunks, rank, change)?;
     let refs = into_refs(alloc, chunks)?;
     if refs.is_empty() {
         return Ok(None);

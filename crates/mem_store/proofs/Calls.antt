@@ -13,8 +13,8 @@ use Rattle.object_store.proofs.Waits.{Waits-same, Makes-alone}
 use Rattle.mem_store.specs.declared.memory_store.MemStore.{MemStore}
 use Rattle.mem_store.specs.Memory.{sole, journal_of, client_of, view_of, Adds, Answers, IsLogged, Exactly, Fails}
 use Rattle.mem_store.specs.Failing.{MadeFail}
-use Rattle.mem_store.specs.declared.logs.Answer.{Answer}
-use Rattle.mem_store.specs.Logs.{reply_in}
+use Rattle.mem_store.specs.declared.kept_events.Answer.{Answer}
+use Rattle.mem_store.specs.KeptEvents.{reply_in}
 
 pub unless-holds : (P : Reply → Type 0) (reply : Reply) → P reply → UnlessFailed P reply
 unless-holds P (Reply_failed done) p = tt

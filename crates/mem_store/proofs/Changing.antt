@@ -7,7 +7,7 @@ use Rattle.object_store.specs.declared.events.Op.{Op}
 use Rattle.object_store.specs.declared.events.Op.TheVariants.{Get, PutNew, PutOver, Remove, RemoveAt, List as ListPart}
 use Rattle.object_store.specs.Machine.{same_key, is_on}
 use Rattle.object_store.proofs.Slots.{same_key-true}
-use Rattle.mem_store.specs.Logs.{key_changed}
+use Rattle.mem_store.specs.KeptEvents.{key_changed}
 use Rattle.mem_store.specs.Places.{place_left, place_after}
 
 same-cond : (a b : Bool) (at : Option ℕ) → at ≡ cond a (cond b at at) at

@@ -7,11 +7,11 @@ use Rattle.object_store.specs.declared.events.Op.TheVariants.{Get, PutNew, PutOv
 use Rattle.object_store.specs.declared.events.Event.{Event}
 use Rattle.object_store.specs.Machine.{Stored, Slot, is_on, was_done, leaves, effect, slot_of, found}
 use Rattle.object_store.proofs.Slots.{slot-append_one, sound}
-use Rattle.mem_store.specs.declared.logs.Answer.{Answer}
-use Rattle.mem_store.specs.declared.logs.Answer.TheVariants.{Stood, Listed, Failed}
+use Rattle.mem_store.specs.declared.kept_events.Answer.{Answer}
+use Rattle.mem_store.specs.declared.kept_events.Answer.TheVariants.{Stood, Listed, Failed}
 use Rattle.mem_store.specs.Standing.{slot_with}
 use Rattle.mem_store.specs.Places.{place_left, place_after}
-use Rattle.mem_store.specs.Logs.{bytes_put, put_by, put_in, puts_in, reply_in, is_done}
+use Rattle.mem_store.specs.KeptEvents.{bytes_put, put_by, put_in, puts_in, reply_in, is_done}
 use Rattle.mem_store.proofs.StandingLemmas.{effect-stands}
 use Rattle.mem_store.proofs.Told.{get-before, get-seam}
 

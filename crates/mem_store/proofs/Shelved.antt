@@ -17,7 +17,7 @@ use Rattle.object_store.specs.Orders.{place_of, key_cmp, key_total}
 use Rattle.object_store.proofs.Slots.{same_key-true}
 use Rattle.object_store.proofs.Ties.{same-tie, within-part, mapped}
 use Rattle.mem_store.specs.Shelves.{shelf_at, place_on, place_at, IsSorted}
-use Rattle.mem_store.specs.Logs.{put_in, puts_in}
+use Rattle.mem_store.specs.KeptEvents.{put_in, puts_in}
 use Rattle.mem_store.specs.Listed.{entry_in, entries_in}
 
 part-same : (a b : Part) → place_of a ≡ place_of b → a ≡ b

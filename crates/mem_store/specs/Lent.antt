@@ -1,10 +1,16 @@
 -- Events and operations that are lent, as the events and operations that they are.
-use Rattle.object_store.specs.declared.events.Got.TheVariants.{Found as Got_found, Absent as Got_absent}
+use Rattle.object_store.specs.declared.events.Got.TheVariants.{Found as Got_found}
+use Rattle.object_store.specs.declared.events.Got.TheVariants.{Absent as Got_absent}
 use Rattle.object_store.specs.declared.events.Reply.{Reply}
-use Rattle.object_store.specs.declared.events.Reply.TheVariants.{Got as Is_got, New as Is_new, Over as Is_over, Gone as Is_gone, GoneAt as Is_gone_at, Listed as Is_listed, Failed as Is_failed}
+use Rattle.object_store.specs.declared.events.Reply.TheVariants.{Got as Is_got, New as Is_new}
+use Rattle.object_store.specs.declared.events.Reply.TheVariants.{Over as Is_over, Gone as Is_gone}
+use Rattle.object_store.specs.declared.events.Reply.TheVariants.{GoneAt as Is_gone_at}
+use Rattle.object_store.specs.declared.events.Reply.TheVariants.{Listed as Is_listed}
+use Rattle.object_store.specs.declared.events.Reply.TheVariants.{Failed as Is_failed}
 use Rattle.object_store.specs.declared.events.Event.{Event}
 use Rattle.mem_store.specs.declared.events.ReplyRef.{ReplyRef}
-use Rattle.mem_store.specs.declared.events.ReplyRef.TheVariants.{Found, Absent, New, Over, Gone, GoneAt, Listed, Failed}
+use Rattle.mem_store.specs.declared.events.ReplyRef.TheVariants.{Found, Absent, New, Over}
+use Rattle.mem_store.specs.declared.events.ReplyRef.TheVariants.{Gone, GoneAt, Listed, Failed}
 use Rattle.mem_store.specs.declared.events.EventRef.{EventRef}
 use Rattle.object_store.specs.declared.events.Op.{Op}
 use Rattle.object_store.specs.declared.events.Op.TheVariants as Made
@@ -22,7 +28,12 @@ reply_lent (Listed entries now) = Is_listed (record { entries = entries.now; now
 reply_lent (Failed done) = Is_failed done
 
 abbrev pub event_lent : EventRef → Event
-event_lent event = record { client = event.client; op = event.op.now; reply = reply_lent event.reply; time = event.time }
+event_lent event = record {
+  client = event.client;
+  op = event.op.now;
+  reply = reply_lent event.reply;
+  time = event.time;
+}
 
 -- an operation that is asked for
 abbrev pub op_lent : OpRef → Op

@@ -5,7 +5,7 @@ pub mod Failing
 pub mod Shelves
 pub mod Places
 pub mod Lent
-pub mod Logs
+pub mod KeptEvents
 pub mod Kept
 pub mod Listed
 pub mod Times

@@ -4,7 +4,8 @@ use Rattle.std.specs.BTreeMap.{BTreeMap}
 use Rattle.object_store.specs.declared.keys.Key.{Key}
 use Rattle.object_store.specs.declared.keys.Part.{Part}
 use Rattle.object_store.specs.declared.events.Op.{Op}
-use Rattle.object_store.specs.declared.events.Op.TheVariants.{Get, PutNew, PutOver, Remove, RemoveAt, List as ListPart}
+use Rattle.object_store.specs.declared.events.Op.TheVariants.{Get, PutNew, PutOver, Remove}
+use Rattle.object_store.specs.declared.events.Op.TheVariants.{RemoveAt, List as ListPart}
 use Rattle.object_store.specs.Machine.{is_on}
 use Rattle.mem_store.specs.declared.index.Index.{Index}
 use Rattle.mem_store.specs.Shelves.{shelf_at, place_at}
@@ -36,4 +37,5 @@ place_left place (ListPart part) at = at
 
 -- the put that stands at a key after an operation
 abbrev pub place_after : ℕ → Op → Bool → Key → Option ℕ → Option ℕ
-place_after place op done key at = if is_on key op then (if done then place_left place op at else at) else at
+place_after place op done key at =
+    if is_on key op then (if done then place_left place op at else at) else at

@@ -20,4 +20,6 @@ place_at shelves key = place_on (shelf_at shelves (part_of key)) key
 
 -- a map has no key of another part
 abbrev pub IsSorted : List (BTreeMap Key ℕ) → Type 0
-IsSorted shelves = (part : Part) (key : Key) → place_of (part_of key) ≢ place_of part → place_on (shelf_at shelves part) key ≡ None
+IsSorted shelves =
+    (part : Part) (key : Key) → place_of (part_of key) ≢ place_of part
+    → place_on (shelf_at shelves part) key ≡ None

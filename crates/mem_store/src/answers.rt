@@ -4,7 +4,7 @@ ghost use Rattle.std.specs.Prelude.{◌≡◌, List};
 ghost use Rattle.object_store.specs.declared.events.Event.{Event};
 ghost use Rattle.object_store.specs.Machine.{new_of, over_of, gone_of, gone_at_of};
 ghost use Rattle.mem_store.specs.Standing.{got_from};
-ghost use Rattle.mem_store.specs.Logs.{puts_in};
+ghost use Rattle.mem_store.specs.KeptEvents.{puts_in};
 
 use ice_base::Bytes;
 use object_store::{Gone, GoneAt, Got, New, Over, Version};

@@ -2,7 +2,7 @@
 
 ghost use Rattle.mem_store.specs.Shelves.{IsSorted};
 
-use crate::logs::{changed_key, left_by};
+use crate::kept_events::{changed_key, left_by};
 use object_store::{Key, Op, Part};
 use std::alloc::{AllocError, Global};
 use std::collections::BTreeMap;

@@ -7,7 +7,7 @@ ghost use Rattle.mem_store.specs.Places.{place_in, place_after};
 use crate::answers::Standing;
 use crate::events::EventRef;
 use crate::index::Index;
-use crate::logs::{Answer, Logged, event_at, last_time, put_in};
+use crate::kept_events::{Answer, KeptEvent, event_at, last_time, put_in};
 use ice_base::Clock;
 use object_store::{Entries, Entry, Key, Op, Part};
 use std::alloc::{AllocError, Global};
@@ -17,7 +17,7 @@ use std::marker::Model;
 /// A journal. Contracts see it as its events; beside them it keeps which put stands at each key.
 #[derive(Debug, Drop)]
 pub(crate) struct Journal {
-    logs: Vec<Logged>,
+    logs: Vec<KeptEvent>,
     index: Index,
 }
 
@@ -40,7 +40,7 @@ impl Journal {
     ghost use Rattle.mem_store.specs.Standing.{stored_of};
     ghost use Rattle.mem_store.specs.Lent.{event_lent};
     ghost use Rattle.mem_store.specs.Times.{IsTime};
-    ghost use Rattle.mem_store.specs.Logs.{put_in, puts_in, event_in};
+    ghost use Rattle.mem_store.specs.KeptEvents.{put_in, puts_in, event_in};
     ghost use Rattle.mem_store.specs.Listed.{entries_in};
 
     /// No events.
@@ -128,7 +128,7 @@ impl Journal {
             return Err(error);
         }
         let time = clock.now().max(last_time(&self.logs));
-        let log = Logged {
+        let log = KeptEvent {
             client,
             op,
             answer,
@@ -144,7 +144,7 @@ impl Journal {
 /// Takes the memory for one more event: there is room for it, and the index is as it is after it.
 /// Without memory nothing has changed.
 fn make_room(
-    logs: &mut Vec<Logged>,
+    logs: &mut Vec<KeptEvent>,
     index: &mut Index,
     alloc: Global,
     op: &Op,

@@ -9,7 +9,7 @@ mod failing_stores;
 mod faults;
 mod index;
 mod journal;
-mod logs;
+mod kept_events;
 mod making;
 mod memory_store;
 mod plans;

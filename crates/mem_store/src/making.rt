@@ -5,7 +5,7 @@ ghost use Rattle.mem_store.specs.Memory.{Exactly, Fails, Serves};
 
 use crate::MemStore;
 use crate::failing_stores::{Failing, Telling};
-use crate::logs::Answer;
+use crate::kept_events::Answer;
 use crate::requests::OpRef;
 use ice_base::Clock;
 use object_store::{ObjectStore, Reply, Rule, StoreFault, WholeStore};

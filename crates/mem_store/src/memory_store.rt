@@ -5,13 +5,13 @@ ghost use Rattle.object_store.specs.Machine.{found, version_at, IsListing};
 ghost use Rattle.object_store.specs.Callers.{Called, as_client};
 ghost use Rattle.mem_store.specs.Standing.{copy_of};
 ghost use Rattle.mem_store.specs.Lent.{event_lent};
-ghost use Rattle.mem_store.specs.Logs.{puts_in};
+ghost use Rattle.mem_store.specs.KeptEvents.{puts_in};
 ghost use Rattle.mem_store.specs.Memory.{journal_of, client_of, clock_of, view_of, IsLogged, IsUnchanged, Exactly};
 
 use crate::answers::{Content, gone_answer, gone_at_answer, got, new_answer, over_answer};
 use crate::events::EventRef;
 use crate::journal::{Journal, copy};
-use crate::logs::Answer;
+use crate::kept_events::Answer;
 use crate::requests;
 use ice_base::{Bytes, Clock};
 use object_store::{

@@ -26,6 +26,7 @@ fault_in side (Err why) = blames_side side why
 abbrev pub tells_fault : Side → MirrorEnd → Bool
 tells_fault side end = fault_in side end.result
 
--- A failure of a store is told there alone where that store's operation failed, whatever is answered.
+-- A failure of a store is told there alone where that store's
+-- operation failed, whatever is answered.
 abbrev pub FairLaw : Type 0
 FairLaw = IsFair tells_fault mirror_program

@@ -2,7 +2,7 @@
 
 ghost use Rattle.std.specs.Prelude.{◌≡◌, ◌<◌, ◌≤◌, ◌+◌, IfOk};
 ghost use Rattle.ref_file.specs.Refs.{ref_bytes};
-ghost use Rattle.store_api.specs.Driving.{bytes_of as payload_bytes, op_of};
+ghost use Rattle.store_api.specs.Driving.{payload_bytes, op_of};
 ghost use Rattle.two_stores.specs.Pairs.{Asks, Awaits, Took};
 ghost use Rattle.mirror_reports.specs.Told.{buried_told};
 ghost use Rattle.mirror.specs.Programs.{see_ref, differs, unless_buried, with_ref};

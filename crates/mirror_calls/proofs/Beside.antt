@@ -15,7 +15,7 @@ use Rattle.two_stores.specs.declared.side.Side.TheVariants.{From, To}
 use Rattle.two_stores.specs.Sides.{other}
 use Rattle.ice_ids.proofs.Elements.{first-is, later-is, first-or-later, none-in}
 use Rattle.mirror_calls.specs.Deeds.{Deed, Did}
-use Rattle.mirror_calls.specs.Journals.{deeds_in, on_this, deeds_on, GoesOn}
+use Rattle.mirror_calls.specs.Journals.{deeds_in, on_this, deeds_on, GrewBy}
 use Rattle.mirror_calls.proofs.Later.{with-deed}
 
 -- ---- those of a side
@@ -50,7 +50,7 @@ pub on-other : (side : Side) (deeds : List Deed) (op : Op) (reply : Reply) → d
 on-other side deeds op reply = on-append (other side) deeds (record { side = side; op = op; reply = reply }) ∙ (ap (λ (l : List Deed). deeds_on (other side) deeds ++ l) (on-none side op reply) ∙ append-nil (deeds_on (other side) deeds))
 
 -- ---- the journal goes on
-pub goes-begin : (client : ℕ) (start : List Event) (side : Side) → GoesOn client start start side []
+pub goes-begin : (client : ℕ) (start : List Event) (side : Side) → GrewBy client start start side []
 goes-begin client start side = record { more = []; is = sym (append-nil start); good = Each-none IsGood start; own = refl }
 
 own-waits : (by : Caller) (old between : List Event) → Each (IsOther by) old between → (more : List Event) → events_of by.number (more ++ between) ≡ events_of by.number more
@@ -58,7 +58,7 @@ own-waits by old between o more =
     filter-append (λ (e : Event). e.client == by.number) more between
     ∙ (ap (λ (l : List Event). events_of by.number more ++ l) (events_of-others by old between o) ∙ append-nil (events_of by.number more))
 
-pub goes-waits : (by : Caller) (start : List Event) (side : Side) (deeds : List Deed) (old new : List Event) → Waits by old new → GoesOn by.number start old side deeds → GoesOn by.number start new side deeds
+pub goes-waits : (by : Caller) (start : List Event) (side : Side) (deeds : List Deed) (old new : List Event) → Waits by old new → GrewBy by.number start old side deeds → GrewBy by.number start new side deeds
 goes-waits by start side deeds old new w g = record {
   more = g.more ++ w.between;
   is = w.is ∙ (ap (λ (h : List Event). h ++ w.between) g.is ∙ append_assoc start g.more w.between);
@@ -66,7 +66,7 @@ goes-waits by start side deeds old new w g = record {
   own = ap (deeds_in side) (own-waits by old w.between w.others g.more) ∙ g.own;
 }
 
-pub goes-makes : (by : Caller) (start : List Event) (side : Side) (deeds : List Deed) (op : Op) (reply : Reply) (old new : List Event) → (m : Makes by op reply old new) → (GoesOn by.number start m.middle side deeds → IsPolite m.middle op) → GoesOn by.number start old side deeds → GoesOn by.number start new side (with-deed deeds side op reply)
+pub goes-makes : (by : Caller) (start : List Event) (side : Side) (deeds : List Deed) (op : Op) (reply : Reply) (old new : List Event) → (m : Makes by op reply old new) → (GrewBy by.number start m.middle side deeds → IsPolite m.middle op) → GrewBy by.number start old side deeds → GrewBy by.number start new side (with-deed deeds side op reply)
 goes-makes by start side deeds op reply old new m polite g =
     let event : Event = own_event by op reply m.time in
     let h = goes-waits by start side deeds old m.middle m.waits g in
@@ -80,7 +80,7 @@ goes-makes by start side deeds op reply old new m polite g =
     }
 
 -- the other side stays as it is
-pub goes-still : (client : ℕ) (start : List Event) (side : Side) (deeds : List Deed) (op : Op) (reply : Reply) (old new : List Event) → new ≡ old → GoesOn client start old (other side) deeds → GoesOn client start new (other side) (with-deed deeds side op reply)
+pub goes-still : (client : ℕ) (start : List Event) (side : Side) (deeds : List Deed) (op : Op) (reply : Reply) (old new : List Event) → new ≡ old → GrewBy client start old (other side) deeds → GrewBy client start new (other side) (with-deed deeds side op reply)
 goes-still client start side deeds op reply old new same g = record { more = g.more; is = same ∙ g.is; good = g.good; own = g.own ∙ sym (on-other side deeds op reply) }
 
 -- ---- what was done happened
@@ -154,7 +154,7 @@ pub record Happened (client : ℕ) (start journal : List Event) (op : Op) (reply
 named-so : (client : ℕ) (op : Op) (reply : Reply) (event : Event) → event.client ≡ client → event.op ≡ op → event.reply ≡ reply → event ≡ record { client = client; op = op; reply = reply; time = event.time }
 named-so client op reply event c o r = λ i. record { client = c i; op = o i; reply = r i; time = event.time }
 
-pub happened : (client : ℕ) (start journal : List Event) (side : Side) (deeds : List Deed) (op : Op) (reply : Reply) → GoesOn client start journal side deeds → Did deeds side op reply → Happened client start journal op reply
+pub happened : (client : ℕ) (start journal : List Event) (side : Side) (deeds : List Deed) (op : Op) (reply : Reply) → GrewBy client start journal side deeds → Did deeds side op reply → Happened client start journal op reply
 happened client start journal side deeds op reply g d =
     let o = occurs client side op reply g.more (subst (λ (l : List Deed). Contains l (record { side = side; op = op; reply = reply })) (sym g.own) (on-in side op reply deeds d)) in
     let good : Each IsGood start (o.before ++ o.event ∷ o.after) = subst (λ (l : List Event). Each IsGood start l) o.is g.good in

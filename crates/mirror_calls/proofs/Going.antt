@@ -48,7 +48,7 @@ use Rattle.ice_ids.proofs.OneMore.{Has, only-with}
 use Rattle.ice_ids.proofs.Elements.{first-or-later, none-in}
 use Rattle.mirror_calls.specs.Deeds.{Deed, HasGot, HasMissed, HasRef}
 use Rattle.mirror_calls.specs.Copies.{IsThere, IsCopied, AreChunksCopied, IsManifestCopied, IsNamedCopied, SaysBut, IsSnapshotCopied, HasParent, IsChainCopied, first, further}
-use Rattle.mirror_calls.specs.Owed.{MayPoint, MayMake, MayMove, MayPut, MayPutOver, MayDo}
+use Rattle.mirror_calls.specs.Owed.{MayPoint, MayMake, MayMove, MayPut, MayCopyOver, MayDo}
 use Rattle.mirror_calls.specs.Reports.{IsRef, IsObject, IsPointed, NotBuried, IsMirrored, IsToldOf, IsPartDone, put_by, count_deed, counts_of, snapshot_gets, IsLine, WasDeep, IsFine, DifferInParent, HasOther, other_object, other_snapshot, has_tombstone, IsCompared, AreCompared, Cause, Reports}
 use Rattle.mirror_calls.proofs.Later.{Later, later-same, later-both, later-step, with-deed, did-now, did-later, got-later, missed-later, ref-later, copied-later, chunks-later, manifest-later, named-later, parent-later, chain-later, before-later, mirrored-later, tally-same, tally-more, gets-append, Puts, puts-same, puts-with, puts-left, still-none, Unmet, compared-none, ButOne, same-put, but-one, one-compared}
 use Rattle.mirror_calls.proofs.Causes.{ok-err, key-ok, cause-bytes, bytes-got, cause-bad, cause-snapshot, parent-told, cause-ref, ref-got, ref-missed, cause-buried, buried-got, buried-missed, cause-listed, listed-now, cause-put, cause-made, made-now, cause-moved, moved-now, object-no-ref, made-none, made-put, moved-none, moved-put}
@@ -505,7 +505,7 @@ module _ (snapshots : SnapshotLaw) (objects : ObjectsLaw) where
   made-may true name deeds bytes m = m
   made-may false name deeds bytes m = m
 
-  moved-may : (tag : Bool) (name : List ℕ) (deeds : List Deed) (bytes : List ℕ) (old : Version) → tag ≡ false → MayMove deeds (key_of (record { tag = tag; name = name })) bytes old → MayPutOver deeds bytes old (key_of (record { tag = tag; name = name }))
+  moved-may : (tag : Bool) (name : List ℕ) (deeds : List Deed) (bytes : List ℕ) (old : Version) → tag ≡ false → MayMove deeds (key_of (record { tag = tag; name = name })) bytes old → MayCopyOver deeds bytes old (key_of (record { tag = tag; name = name }))
   moved-may true name deeds bytes old e m = absurd (cc)
   moved-may false name deeds bytes old e m = m
 

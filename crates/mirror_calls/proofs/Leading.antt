@@ -16,7 +16,7 @@ use Rattle.mirror_reports.specs.declared.outcome.MirrorEnd.{MirrorEnd}
 use Rattle.mirror.specs.Programs.{Answer, mirror_program}
 use Rattle.mirror_calls.specs.Deeds.{Deed}
 use Rattle.mirror_calls.specs.Owed.{MayDo}
-use Rattle.mirror_calls.specs.Journals.{GoesOn, AreOwed, AreDeeds}
+use Rattle.mirror_calls.specs.Journals.{GrewBy, AreOwed, AreDeeds}
 use Rattle.mirror_calls.specs.Laws.{PoliteOn, IsOwed, MirrorTells, MirrorLaw}
 use Rattle.mirror_calls.proofs.Later.{with-deed}
 use Rattle.mirror_calls.proofs.Going.{Goes, goes-mirror}
@@ -61,7 +61,7 @@ module _ (law : RefLaw) (by : Both Caller) (start : Both (List Event)) where
   are-step : (deeds : List Deed) (side : Side) (op : Op) (reply : Reply) (old new : Both (List Event)) → MayDo deeds side op → StepsOn by side op reply old new → AreDeeds by start old deeds → AreDeeds by start new (with-deed deeds side op reply)
   are-step deeds side op reply old new may s a = record { on = on_side side s may; owed = owed-more deeds side op reply a.owed may }
     where
-      on_side : (at : Side) → StepsOn by at op reply old new → MayDo deeds at op → (x : Side) → IsTrue (at_side x by).tells → GoesOn (at_side x by).number (at_side x start) (at_side x new) x (with-deed deeds at op reply)
+      on_side : (at : Side) → StepsOn by at op reply old new → MayDo deeds at op → (x : Side) → IsTrue (at_side x by).tells → GrewBy (at_side x by).number (at_side x start) (at_side x new) x (with-deed deeds at op reply)
       on_side From s m From t = goes-makes by.from start.from From deeds op reply old.from new.from (s.made t) (λ g. side-polite law by.from.number start.from (s.made t).middle From deeds op m g) (a.on From t)
       on_side From s m To t = goes-still by.to.number start.to From deeds op reply old.to new.to s.stays (a.on To t)
       on_side To s m From t = goes-still by.from.number start.from To deeds op reply old.from new.from s.stays (a.on From t)

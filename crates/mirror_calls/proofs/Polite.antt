@@ -28,8 +28,8 @@ use Rattle.two_stores.specs.declared.side.Side.TheVariants.{From, To}
 use Rattle.mirror.specs.Programs.{cause_of}
 use Rattle.mirror_calls.specs.Deeds.{Deed}
 use Rattle.mirror_calls.specs.Copies.{IsThere, IsCopied, IsChainCopied, first, further}
-use Rattle.mirror_calls.specs.Owed.{MayPutManifest, MayPutSnapshot, MayPoint, MayPut, MayPutOver, MayDo}
-use Rattle.mirror_calls.specs.Journals.{GoesOn}
+use Rattle.mirror_calls.specs.Owed.{MayPutManifest, MayPutSnapshot, MayPoint, MayPut, MayCopyOver, MayDo}
+use Rattle.mirror_calls.specs.Journals.{GrewBy}
 use Rattle.mirror_calls.proofs.Beside.{Happened, happened}
 
 -- what a get found stands
@@ -64,7 +64,7 @@ module _ (client : ℕ) (start journal : List Event) where
       let s = got-stored (found before key) bytes version now h.event.time (answered-so client start journal (Get key) (R.Got (Found bytes version now)) h).answered in
       subst (λ (j : List Event). WasPut j key) (sym h.is) (WasPut-append before (h.event ∷ h.after) key ((sound before key).first s.0 s.1))
 
-  module _ (deeds : List Deed) (g : GoesOn client start journal To deeds) where
+  module _ (deeds : List Deed) (g : GrewBy client start journal To deeds) where
     -- what the target has was put there
     pub there-put : (key : Key) (bytes : List ℕ) → IsThere deeds key bytes → WasPut journal key
     there-put key bytes (inl p) = put-happened key bytes p.why p.version p.now (happened client start journal To deeds (PutNew key bytes p.why) (R.New (New_done p.version p.now)) g p.did)
@@ -110,7 +110,7 @@ module _ (client : ℕ) (start journal : List Event) where
     new-polite law (Tombstone name) bytes why m w = absurd m
     new-polite law (Lease id) bytes why m w = absurd m
 
-    over-polite : RefLaw → (key : Key) (bytes : List ℕ) (old : Version) (why : Why) → MayPutOver deeds bytes old key → why ≡ Reset → IsPolite journal (PutOver key bytes old why)
+    over-polite : RefLaw → (key : Key) (bytes : List ℕ) (old : Version) (why : Why) → MayCopyOver deeds bytes old key → why ≡ Reset → IsPolite journal (PutOver key bytes old why)
     over-polite law (Branch name) bytes old why m w = record { names = names-put law (Branch name) bytes m.point; cause = inl w }
     over-polite law (Snapshot id) bytes old why m w = absurd m
     over-polite law (Manifest id) bytes old why m w = absurd m
@@ -138,6 +138,6 @@ source-polite journal deeds (Remove key why) m = absurd m
 source-polite journal deeds (RemoveAt key old why) m = absurd m
 
 -- on either side
-pub side-polite : RefLaw → (client : ℕ) (start journal : List Event) (side : Side) (deeds : List Deed) (op : Op) → MayDo deeds side op → GoesOn client start journal side deeds → IsPolite journal op
+pub side-polite : RefLaw → (client : ℕ) (start journal : List Event) (side : Side) (deeds : List Deed) (op : Op) → MayDo deeds side op → GrewBy client start journal side deeds → IsPolite journal op
 side-polite law client start journal From deeds op m g = source-polite journal deeds op m
 side-polite law client start journal To deeds op m g = target-polite client start journal deeds g law op m

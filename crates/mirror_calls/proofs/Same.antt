@@ -25,7 +25,7 @@ use Rattle.object_store.specs.declared.events.Event.{Event}
 use Rattle.object_store.specs.Machine.{Stored, Slot, slot_of, effect, found, last_put, new_of, leaves, put_at, where_free, is_on, was_done}
 use Rattle.object_store.proofs.Slots.{same_key-refl, same_key-true, bytes-same, id-true, effect-cases, free-cases, old-cases, slot-append_one, sound, found-stood, stood-is, StoodAt-append, WasPut-append}
 use Rattle.object_store.proofs.Journals.{Each-back, Each-both}
-use Rattle.store_api.specs.Journal.{Each, IsGood, IsPolite, IsFirst, IsFirstOp, IsOnce, WasPut, StoodAt, puts_of, snap_in, rows_of, PutsFirst, MayPutOver as PoliteOver, IsCut}
+use Rattle.store_api.specs.Journal.{Each, IsGood, IsPolite, IsFirst, IsFirstOp, IsOnce, WasPut, StoodAt, puts_of, snap_in, rows_of, PutsFirst, MayPutOver, IsCut}
 use Rattle.store_api.specs.Callers.{Caller, only, own_event}
 use Rattle.store_api.specs.Program.{events_of}
 use Rattle.store_api.proofs.SameTree.{tree-same}
@@ -43,7 +43,7 @@ use Rattle.mirror_calls.specs.Deeds.{Deed, Did, HasGot, HasRef}
 use Rattle.mirror_calls.specs.Copies.{IsThere, IsSnapshotCopied, SaysBut, IsChainCopied, first, further}
 use Rattle.mirror_calls.specs.Owed.{MayPoint, MayDo}
 use Rattle.mirror_calls.specs.Reports.{ref_id}
-use Rattle.mirror_calls.specs.Journals.{deeds_in, on_this, deeds_on, GoesOn, AreOwed, AreDeeds}
+use Rattle.mirror_calls.specs.Journals.{deeds_in, on_this, deeds_on, GrewBy, AreOwed, AreDeeds}
 use Rattle.mirror_calls.specs.Laws.{BothTell, IsFirstOrOf, IsOnceBeside, WasNamedIn, IsSameIn, NamesSame, IsOwed, PointsWell, MirrorTells, RefsSame, MirroredTreesLaw}
 use Rattle.mirror_calls.proofs.Later.{Later, later-same, got-later, ref-later, chain-later}
 use Rattle.mirror_calls.proofs.Beside.{happened}
@@ -79,7 +79,7 @@ whole-is : (before : List Event) (event : Event) (after : List Event) → (befor
 whole-is [] event after = refl
 whole-is (x ∷ xs) event after = ap (λ (l : List Event). x ∷ l) (whole-is xs event after)
 
-module _ (client : ℕ) (start journal : List Event) (side : Side) (deeds : List Deed) (g : GoesOn client start journal side deeds) where
+module _ (client : ℕ) (start journal : List Event) (side : Side) (deeds : List Deed) (g : GrewBy client start journal side deeds) where
   pub got-there : (key : Key) (bytes : List ℕ) → HasGot deeds side key bytes → WasThere start journal key bytes
   got-there key bytes q =
       let h = happened client start journal side deeds (Get key) (R.Got (Found bytes q.version q.now)) g q.did in
@@ -112,7 +112,7 @@ module _ (client : ℕ) (start journal : List Event) (side : Side) (deeds : List
       }
 
 -- ---- the source
-module _ (client : ℕ) (start journal : List Event) (deeds : List Deed) (g : GoesOn client start journal From deeds) (once : IsOnce journal) where
+module _ (client : ℕ) (start journal : List Event) (deeds : List Deed) (g : GrewBy client start journal From deeds) (once : IsOnce journal) where
   -- nothing is put again behind it
   first-behind : (before rest : List Event) → journal ≡ before ++ rest → IsOnce before × Each IsFirst before rest
   first-behind before rest is = Each-back IsFirst [] before rest (subst IsOnce is once)
@@ -214,7 +214,7 @@ own-each deeds client (x ∷ xs) old f = go (own-each deeds client xs (old ++ x 
     go again false n h = (λ own. let yes = eq-eqb x.client client own in absurd (cc), again h)
 
 -- ---- what is read of a key's last put stays
-module _ {A : Type 0} (deeds : List Deed) (client : ℕ) (key : Key) (read : Option (List ℕ) → A) (a : A) (own : (bytes : List ℕ) (why : Why) → MayEver deeds (PutNew key bytes why) → read (Some bytes) ≡ a) (never : (bytes : List ℕ) (old : Version) (why : Why) → MayEver deeds (PutOver key bytes old why) → ⊥) (again : (journal : List Event) (bytes : List ℕ) → PutsFirst journal bytes key → found journal key ≡ None → WasPut journal key → read (Some bytes) ≡ a) (over : (journal : List Event) (bytes : List ℕ) (s : Stored) (why : Why) → found journal key ≡ Some s → PoliteOver journal bytes s.version why key → read (Some bytes) ≡ read (last_put journal key)) where
+module _ {A : Type 0} (deeds : List Deed) (client : ℕ) (key : Key) (read : Option (List ℕ) → A) (a : A) (own : (bytes : List ℕ) (why : Why) → MayEver deeds (PutNew key bytes why) → read (Some bytes) ≡ a) (never : (bytes : List ℕ) (old : Version) (why : Why) → MayEver deeds (PutOver key bytes old why) → ⊥) (again : (journal : List Event) (bytes : List ℕ) → PutsFirst journal bytes key → found journal key ≡ None → WasPut journal key → read (Some bytes) ≡ a) (over : (journal : List Event) (bytes : List ℕ) (s : Stored) (why : Why) → found journal key ≡ Some s → MayPutOver journal bytes s.version why key → read (Some bytes) ≡ read (last_put journal key)) where
   abbrev Reads : Slot → Type 0
   Reads slot = read slot.last ≡ a
 
@@ -234,9 +234,9 @@ module _ {A : Type 0} (deeds : List Deed) (client : ℕ) (key : Key) (read : Opt
       free-cases Reads (found journal key) (put_at (length journal) time bytes (slot_of journal key)) (slot_of journal key) r
       (λ free. again journal bytes (subst (λ (x : Key). PutsFirst journal bytes x) (same_key-true k key e) f) free w)
   reads-first journal time (PutOver k bytes old why) e w p f r =
-      let polite : PoliteOver journal bytes old.0 why key = subst (λ (x : Key). PoliteOver journal bytes old.0 why x) (same_key-true k key e) p in
+      let polite : MayPutOver journal bytes old.0 why key = subst (λ (x : Key). MayPutOver journal bytes old.0 why x) (same_key-true k key e) p in
       old-cases Reads old.0 (found journal key) (put_at (length journal) time bytes (slot_of journal key)) (slot_of journal key) r
-      (λ s d v. over journal bytes s why d (subst (λ (n : ℕ). PoliteOver journal bytes n why key) (sym v) polite) ∙ r)
+      (λ s d v. over journal bytes s why d (subst (λ (n : ℕ). MayPutOver journal bytes n why key) (sym v) polite) ∙ r)
   reads-first journal time (Remove k why) e w p f r = r
   reads-first journal time (RemoveAt k old why) e w p f r = old-cases Reads old.0 (found journal key) _ (slot_of journal key) r (λ s d v. r)
   reads-first journal time (ListPart part) e w p f r = r
@@ -260,10 +260,10 @@ same-end start more rest e = sym (drop-append_seam start more) ∙ (ap (drop (le
 
 -- ---- both
 module _ (by : Both Caller) (start seen : Both (List Event)) (tell : BothTell by) (deeds : List Deed) (d : AreDeeds by start seen deeds) (o : IsOnceBeside by start seen) where
-  abbrev source : GoesOn by.from.number start.from seen.from From deeds
+  abbrev source : GrewBy by.from.number start.from seen.from From deeds
   source = d.on From tell.from
 
-  abbrev target : GoesOn by.to.number start.to seen.to To deeds
+  abbrev target : GrewBy by.to.number start.to seen.to To deeds
   target = d.on To tell.to
 
   beside : Each (Beside deeds by.to.number) start.to target.more

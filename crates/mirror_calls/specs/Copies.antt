@@ -1,4 +1,5 @@
--- What a mirror has copied. (Icechunk specification version 1, "Snapshot Files", "Manifest Files", "Chunk Files", "Transaction Log Files".)
+-- What a mirror has copied. (Icechunk specification version 1, "Snapshot Files", "Manifest Files",
+-- "Chunk Files", "Transaction Log Files".)
 use Rattle.std.specs.Prelude.{◌≡◌, ◌⊎◌, ℕ, List, Option, Some, None}
 use Rattle.ice_ids.specs.declared.Id12.{Id12}
 use Rattle.ice_ids.specs.Text.{initial_id}
@@ -23,7 +24,8 @@ pub record IsCopied (deeds : List Deed) (key : Key) : Type 0 where
 
 -- the objects in which a manifest has chunks are copied
 abbrev pub AreChunksCopied : List Deed → ManifestFile → Type 0
-AreChunksCopied deeds manifest = (object : Id12) → NamesChunk manifest object → IsCopied deeds (Chunk object)
+AreChunksCopied deeds manifest =
+    (object : Id12) → NamesChunk manifest object → IsCopied deeds (Chunk object)
 
 -- A manifest, and the objects in which it has chunks.
 pub record IsManifestCopied (deeds : List Deed) (id : Id12) : Type 0 where
@@ -34,10 +36,12 @@ pub record IsManifestCopied (deeds : List Deed) (id : Id12) : Type 0 where
   pub chunks : AreChunksCopied deeds manifest
   pub there : IsThere deeds (Manifest id) bytes
 
--- What a snapshot names, but for its parent: its log (the initial one has none), and the manifests of its nodes.
+-- What a snapshot names, but for its parent: its log (the initial one has none),
+-- and the manifests of its nodes.
 pub record IsNamedCopied (deeds : List Deed) (id : Id12) (snap : SnapshotFile) : Type 0 where
   pub log : (id ≡ initial_id) ⊎ IsCopied deeds (Txn id)
-  pub manifests : (manifest : Id12) → NamesManifest snap.nodes manifest → IsManifestCopied deeds manifest
+  pub manifests : (manifest : Id12) → NamesManifest snap.nodes manifest
+      → IsManifestCopied deeds manifest
 
 -- these bytes are a snapshot that says what this one says, but for the parent
 pub record SaysBut (id : Id12) (snap : SnapshotFile) (bytes : List ℕ) : Type 0 where
@@ -66,4 +70,5 @@ pub record HasParent (deeds : List Deed) (id : Id12) (parent : Option Id12) : Ty
 -- A snapshot and all before it, down to the end, along the parents that were read in the source.
 pub data IsChainCopied (deeds : List Deed) : Id12 → Type 0 where
   first : {id : Id12} → HasParent deeds id None → IsSnapshotCopied deeds id → IsChainCopied deeds id
-  further : {id parent : Id12} → HasParent deeds id (Some parent) → IsSnapshotCopied deeds id → IsChainCopied deeds parent → IsChainCopied deeds id
+  further : {id parent : Id12} → HasParent deeds id (Some parent) → IsSnapshotCopied deeds id
+      → IsChainCopied deeds parent → IsChainCopied deeds id

@@ -35,7 +35,8 @@ pub record HasMissed (deeds : List Deed) (side : Side) (key : Key) : Type 0 wher
   pub did : Did deeds side (Get key) (Got (Absent now))
 
 -- a get of a ref was answered with a reference to this snapshot, at this version
-pub record HasRef (deeds : List Deed) (side : Side) (key : Key) (version : Version) (id : Id12) : Type 0 where
+pub record HasRef (deeds : List Deed) (side : Side) (key : Key) (version : Version)
+    (id : Id12) : Type 0 where
   pub bytes : List ℕ
   pub now : ℕ
   pub did : Did deeds side (Get key) (Got (Found bytes version now))

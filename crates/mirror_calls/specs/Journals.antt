@@ -13,7 +13,8 @@ use Rattle.mirror_calls.specs.Owed.{MayDo}
 -- what events are as operations of this side
 abbrev pub deeds_in : Side → List Event → List Deed
 deeds_in side [] = []
-deeds_in side (event ∷ events) = record { side = side; op = event.op; reply = event.reply } ∷ deeds_in side events
+deeds_in side (event ∷ events) = record { side = side; op = event.op; reply = event.reply }
+    ∷ deeds_in side events
 
 -- those of this side
 abbrev pub on_this : (side at : Side) → Deed → List Deed → List Deed
@@ -27,7 +28,8 @@ deeds_on side [] = []
 deeds_on side (deed ∷ deeds) = on_this side deed.side deed (deeds_on side deeds)
 
 -- From `start` on good events came, and the client's own are these.
-pub record GoesOn (client : ℕ) (start journal : List Event) (side : Side) (deeds : List Deed) : Type 0 where
+pub record GrewBy (client : ℕ) (start journal : List Event) (side : Side)
+    (deeds : List Deed) : Type 0 where
   pub more : List Event
   pub is : journal ≡ start ++ more
   pub good : Each IsGood start more
@@ -35,9 +37,14 @@ pub record GoesOn (client : ℕ) (start journal : List Event) (side : Side) (dee
 
 -- each operation was one that a mirror may do next by those before it
 abbrev pub AreOwed : List Deed → Type 0
-AreOwed deeds = (before after : List Deed) (deed : Deed) → deeds ≡ before ++ deed ∷ after → MayDo before deed.side deed.op
+AreOwed deeds =
+    (before after : List Deed) (deed : Deed) → deeds ≡ before ++ deed ∷ after
+    → MayDo before deed.side deed.op
 
--- From `start` on the mirror's own operations in both journals are these, of the stores that tell theirs; and each was owed.
-pub record AreDeeds (by : Both Caller) (start seen : Both (List Event)) (deeds : List Deed) : Type 0 where
-  pub on : (side : Side) → IsTrue (at_side side by).tells → GoesOn (at_side side by).number (at_side side start) (at_side side seen) side deeds
+-- From `start` on the mirror's own operations in both journals are these, of the stores that
+-- tell theirs; and each was owed.
+pub record AreDeeds (by : Both Caller) (start seen : Both (List Event))
+    (deeds : List Deed) : Type 0 where
+  pub on : (side : Side) → IsTrue (at_side side by).tells
+      → GrewBy (at_side side by).number (at_side side start) (at_side side seen) side deeds
   pub owed : AreOwed deeds

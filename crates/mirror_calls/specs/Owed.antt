@@ -6,16 +6,19 @@ use Rattle.manifest_file.specs.declared.manifest.ManifestFile.{ManifestFile}
 use Rattle.ref_file.specs.Refs.{ref_bytes}
 use Rattle.repo_objects.specs.Readings.{snapshot_by, manifest_by}
 use Rattle.object_store.specs.declared.keys.Key.{Key}
-use Rattle.object_store.specs.declared.keys.Key.TheVariants.{Snapshot, Manifest, Txn, Chunk, Branch, Tag, Tombstone, Lease}
+use Rattle.object_store.specs.declared.keys.Key.TheVariants.{Snapshot, Manifest, Txn, Chunk}
+use Rattle.object_store.specs.declared.keys.Key.TheVariants.{Branch, Tag, Tombstone, Lease}
 use Rattle.object_store.specs.declared.keys.Why.TheVariants.{Reset}
 use Rattle.object_store.specs.declared.events.Version.{Version}
 use Rattle.object_store.specs.declared.events.Op.{Op}
-use Rattle.object_store.specs.declared.events.Op.TheVariants.{Get, PutNew, PutOver, Remove, RemoveAt, List as ListPart}
+use Rattle.object_store.specs.declared.events.Op.TheVariants.{Get, PutNew, PutOver, Remove}
+use Rattle.object_store.specs.declared.events.Op.TheVariants.{RemoveAt, List as ListPart}
 use Rattle.two_stores.specs.declared.side.Side.{Side}
 use Rattle.two_stores.specs.declared.side.Side.TheVariants.{From, To}
 use Rattle.mirror.specs.Programs.{cause_of}
 use Rattle.mirror_calls.specs.Deeds.{Deed, HasGot, HasMissed, HasRef}
-use Rattle.mirror_calls.specs.Copies.{AreChunksCopied, IsNamedCopied, SaysBut, HasParent, IsChainCopied}
+use Rattle.mirror_calls.specs.Copies.{AreChunksCopied, IsNamedCopied}
+use Rattle.mirror_calls.specs.Copies.{SaysBut, HasParent, IsChainCopied}
 
 -- A manifest is put as it was got in the source, behind the objects in which it has chunks.
 pub record MayPutManifest (deeds : List Deed) (id : Id12) (bytes : List ℕ) : Type 0 where
@@ -24,8 +27,9 @@ pub record MayPutManifest (deeds : List Deed) (id : Id12) (bytes : List ℕ) : T
   pub read : manifest_by id bytes ≡ Some manifest
   pub chunks : AreChunksCopied deeds manifest
 
--- A snapshot is put as it was got in the source, but for its parent, behind what it names and all before it. Its parent is one with which a get in the
--- source read it: it may have been cut there meanwhile.
+-- A snapshot is put as it was got in the source, but for its parent, behind what it names
+-- and all before it. Its parent is one with which a get in the source read it: it may
+-- have been cut there meanwhile.
 pub record MayPutSnapshot (deeds : List Deed) (id : Id12) (bytes : List ℕ) : Type 0 where
   pub source : List ℕ
   pub got : HasGot deeds From (Snapshot id) source
@@ -66,17 +70,18 @@ MayPut deeds bytes (Tag name) = MayMake deeds (Tag name) bytes
 MayPut deeds bytes (Tombstone name) = ⊥
 MayPut deeds bytes (Lease id) = ⊥
 
-abbrev pub MayPutOver : List Deed → List ℕ → Version → Key → Type 0
-MayPutOver deeds bytes old (Snapshot id) = ⊥
-MayPutOver deeds bytes old (Manifest id) = ⊥
-MayPutOver deeds bytes old (Txn id) = ⊥
-MayPutOver deeds bytes old (Chunk id) = ⊥
-MayPutOver deeds bytes old (Branch name) = MayMove deeds (Branch name) bytes old
-MayPutOver deeds bytes old (Tag name) = ⊥
-MayPutOver deeds bytes old (Tombstone name) = ⊥
-MayPutOver deeds bytes old (Lease id) = ⊥
+abbrev pub MayCopyOver : List Deed → List ℕ → Version → Key → Type 0
+MayCopyOver deeds bytes old (Snapshot id) = ⊥
+MayCopyOver deeds bytes old (Manifest id) = ⊥
+MayCopyOver deeds bytes old (Txn id) = ⊥
+MayCopyOver deeds bytes old (Chunk id) = ⊥
+MayCopyOver deeds bytes old (Branch name) = MayMove deeds (Branch name) bytes old
+MayCopyOver deeds bytes old (Tag name) = ⊥
+MayCopyOver deeds bytes old (Tombstone name) = ⊥
+MayCopyOver deeds bytes old (Lease id) = ⊥
 
--- The source is read alone; in the target nothing is removed, and what is put was got in the source.
+-- The source is read alone; in the target nothing is removed, and
+-- what is put was got in the source.
 abbrev pub MayDo : List Deed → Side → Op → Type 0
 MayDo deeds From (Get key) = Unit {0}
 MayDo deeds From (ListPart part) = Unit {0}
@@ -87,6 +92,6 @@ MayDo deeds From (RemoveAt key old why) = ⊥
 MayDo deeds To (Get key) = Unit {0}
 MayDo deeds To (ListPart part) = ⊥
 MayDo deeds To (PutNew key bytes why) = MayPut deeds bytes key × (why ≡ cause_of key)
-MayDo deeds To (PutOver key bytes old why) = MayPutOver deeds bytes old key × (why ≡ Reset)
+MayDo deeds To (PutOver key bytes old why) = MayCopyOver deeds bytes old key × (why ≡ Reset)
 MayDo deeds To (Remove key why) = ⊥
 MayDo deeds To (RemoveAt key old why) = ⊥

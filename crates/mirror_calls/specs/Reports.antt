@@ -1,5 +1,6 @@
 -- What a mirror tells at its end, by what it did and was told.
-use Rattle.std.specs.Prelude.{◌≡◌, ◌≢◌, ◌⊎◌, ◌<◌, ◌≤◌, ◌+◌, ℕ, Bool, true, false, List, [], ◌∷◌, ◌++◌, length, Contains, Option, Some, Result, Ok, Err, IsTrue}
+use Rattle.std.specs.Prelude.{◌≡◌, ◌≢◌, ◌⊎◌, ◌<◌, ◌≤◌, ◌+◌, ℕ, Bool, true, false, List, [], ◌∷◌}
+use Rattle.std.specs.Prelude.{◌++◌, length, Contains, Option, Some, Result, Ok, Err, IsTrue}
 use Rattle.flat_tables.specs.declared.header.Kind.{Kind}
 use Rattle.flat_tables.specs.declared.header.Kind.TheVariants as kinds
 use Rattle.flat_tables.specs.File.{file_limit}
@@ -8,18 +9,22 @@ use Rattle.snapshot_file.specs.declared.snapshot.SnapshotFile.{SnapshotFile}
 use Rattle.snapshot_file.specs.Layout.{snapshot_bytes}
 use Rattle.ref_file.specs.Refs.{ref_bytes}
 use Rattle.repo_objects.specs.declared.bad_objects.Bad.{Bad}
-use Rattle.repo_objects.specs.Readings.{read_snapshot, read_manifest, read_log, read_ref, snapshot_by}
+use Rattle.repo_objects.specs.Readings.{read_snapshot, read_manifest}
+use Rattle.repo_objects.specs.Readings.{read_log, read_ref, snapshot_by}
 use Rattle.object_store.specs.declared.keys.Key.{Key}
-use Rattle.object_store.specs.declared.keys.Key.TheVariants.{Snapshot, Manifest, Txn, Chunk, Branch, Tag, Tombstone, Lease}
+use Rattle.object_store.specs.declared.keys.Key.TheVariants.{Snapshot, Manifest, Txn, Chunk}
+use Rattle.object_store.specs.declared.keys.Key.TheVariants.{Branch, Tag, Tombstone, Lease}
 use Rattle.object_store.specs.declared.keys.Part.{Part}
 use Rattle.object_store.specs.declared.keys.Part.TheVariants.{Branches, Tags}
 use Rattle.object_store.specs.declared.keys.Why.{Why}
 use Rattle.object_store.specs.declared.keys.Why.TheVariants.{Reset}
 use Rattle.object_store.specs.declared.events.Version.{Version}
 use Rattle.object_store.specs.declared.events.Op.{Op}
-use Rattle.object_store.specs.declared.events.Op.TheVariants.{Get, PutNew, PutOver, List as ListPart}
+use Rattle.object_store.specs.declared.events.Op.TheVariants.{Get, PutNew, PutOver}
+use Rattle.object_store.specs.declared.events.Op.TheVariants.{List as ListPart}
 use Rattle.object_store.specs.declared.events.New.TheVariants.{Done as New_done, Present}
-use Rattle.object_store.specs.declared.events.Over.TheVariants.{Done as Over_done, Moved as Over_moved}
+use Rattle.object_store.specs.declared.events.Over.TheVariants.{Done as Over_done}
+use Rattle.object_store.specs.declared.events.Over.TheVariants.{Moved as Over_moved}
 use Rattle.object_store.specs.declared.events.Listed.{Listed}
 use Rattle.object_store.specs.declared.events.Reply.{Reply}
 use Rattle.object_store.specs.declared.events.Reply.TheVariants.{New, Over, Listed as Is_listed}
@@ -42,7 +47,10 @@ use Rattle.mirror_calls.specs.Copies.{SaysBut, HasParent, IsChainCopied}
 -- ---- refs
 -- a put of the ref, as new or over another, was answered as done
 abbrev pub WasPointed : List Deed → Key → Id12 → Type 0
-WasPointed deeds key id = HasPut deeds key (ref_bytes id) ⊎ ((old version : Version) × (now : ℕ) × Did deeds To (PutOver key (ref_bytes id) old Reset) (Over (Over_done version now)))
+WasPointed deeds key id =
+    HasPut deeds key (ref_bytes id)
+    ⊎ ((old version : Version) × (now : ℕ)
+    × Did deeds To (PutOver key (ref_bytes id) old Reset) (Over (Over_done version now)))
 
 -- a tag has no tombstone; a branch never has one
 abbrev pub NotBuried : List Deed → RefId → (tag : Bool) → Type 0
@@ -52,12 +60,14 @@ NotBuried deeds r true = HasMissed deeds To (Tombstone r.name)
 -- the target's ref names this snapshot: it was put, or left, since it did
 abbrev pub IsPointed : List Deed → RefId → Id12 → (put : Bool) → Type 0
 IsPointed deeds r id true = WasPointed deeds (key_of r) id
-IsPointed deeds r id false = ((version : Version) × HasRef deeds To (key_of r) version id) × NotBuried deeds r r.tag
+IsPointed deeds r id false =
+    ((version : Version) × HasRef deeds To (key_of r) version id) × NotBuried deeds r r.tag
 
 abbrev pub ref_id : MirrorRef → RefId
 ref_id r = record { tag = r.tag; name = r.name }
 
--- The source's ref named the snapshot when it was got; that and all before it are copied; and the target's ref names it.
+-- The source's ref named the snapshot when it was got; that and all before it are copied;
+-- and the target's ref names it.
 pub record IsMirrored (deeds : List Deed) (r : MirrorRef) : Type 0 where
   pub version : Version
   pub source : HasRef deeds From (key_of (ref_id r)) version r.id
@@ -75,11 +85,13 @@ put_if true put = put ∷ []
 put_if false put = []
 
 abbrev pub put_new : Key → List ℕ → Reply → List PutRef
-put_new key bytes (New (New_done version now)) = put_if (is_ref key) (record { key = key; bytes = bytes })
+put_new key bytes (New (New_done version now)) =
+    put_if (is_ref key) (record { key = key; bytes = bytes })
 put_new key bytes _ = []
 
 abbrev pub put_over : Key → List ℕ → Reply → List PutRef
-put_over key bytes (Over (Over_done version now)) = put_if (is_ref key) (record { key = key; bytes = bytes })
+put_over key bytes (Over (Over_done version now)) =
+    put_if (is_ref key) (record { key = key; bytes = bytes })
 put_over key bytes _ = []
 
 abbrev pub put_by : Op → Reply → List PutRef
@@ -107,11 +119,13 @@ pub record IsToldOf (refs : List MirrorRef) (r : RefId) : Type 0 where
   pub among : Contains refs told
   pub is : ref_id told ≡ r
 
--- The part of the source was listed, and of each ref of the listing that stands it is told, but for those that were gone when they were got.
+-- The part of the source was listed, and of each ref of the listing that stands it is told, but for
+-- those that were gone when they were got.
 pub record IsPartDone (deeds : List Deed) (refs : List MirrorRef) (part : Part) : Type 0 where
   pub listed : Listed
   pub did : Did deeds From (ListPart part) (Is_listed listed)
-  pub each : (r : RefId) → Contains (ref_ids (live listed.entries)) r → IsToldOf refs r ⊎ HasMissed deeds From (key_of r)
+  pub each : (r : RefId) → Contains (ref_ids (live listed.entries)) r
+      → IsToldOf refs r ⊎ HasMissed deeds From (key_of r)
 
 -- the objects whose put was answered as done, by kind
 abbrev pub count_reply : Key → Reply → Mirrored → Mirrored
@@ -169,7 +183,8 @@ abbrev pub snapshot_gets : List Deed → ℕ
 snapshot_gets [] = 0
 snapshot_gets (deed ∷ deeds) = snapshot_get deed.side deed.op + snapshot_gets deeds
 
--- these snapshots were read in the source, the lowest first: it names `below` as its parent, and each other one the one before it
+-- these snapshots were read in the source, the lowest first: it names `below` as its parent, and
+-- each other one the one before it
 abbrev pub IsLine : List Deed → (below : Id12) → List Id12 → Type 0
 IsLine deeds below [] = Unit {0}
 IsLine deeds below (id ∷ ids) = HasParent deeds id (Some below) × IsLine deeds id ids
@@ -181,7 +196,8 @@ pub record WasDeep (deeds : List Deed) : Type 0 where
   pub many : length line ≡ most_snapshots
   pub read : IsLine deeds next line
 
--- a snapshot was got in one of the stores whose file with another parent would be longer than a file may be
+-- a snapshot was got in one of the stores whose file with another parent
+-- would be longer than a file may be
 pub record HasLong (deeds : List Deed) (kind : Kind) : Type 0 where
   pub kind_is : kind ≡ kinds.Snapshot
   pub side : Side
@@ -193,7 +209,8 @@ pub record HasLong (deeds : List Deed) (kind : Kind) : Type 0 where
   pub parent : Option Id12
   pub long : file_limit < length (snapshot_bytes (record snap { parent = parent }))
 
--- what stands in the target is fine where these bytes were to be put: the same, or of a snapshot that differs in the parent alone
+-- what stands in the target is fine where these bytes were to be put: the same, or of a snapshot
+-- that differs in the parent alone
 pub record DifferInParent (id : Id12) (bytes there : List ℕ) : Type 0 where
   pub snap : SnapshotFile
   pub read : snapshot_by id bytes ≡ Some snap
@@ -209,19 +226,29 @@ IsFine (Tag name) bytes there = bytes ≡ there
 IsFine (Tombstone name) bytes there = bytes ≡ there
 IsFine (Lease id) bytes there = bytes ≡ there
 
--- An object was to be put where another one stands; or a tag of the target names another snapshot than the source's, or has a tombstone.
+-- An object was to be put where another one stands; or a tag of the target names another snapshot
+-- than the source's, or has a tombstone.
 pub data HasOther (deeds : List Deed) : Key → Type 0 where
-  other_object : {key : Key} → (bytes there : List ℕ) (why : Why) (version : Version) (now : ℕ) → Did deeds To (PutNew key bytes why) (New (Present version now)) → HasGot deeds To key there → (IsFine key bytes there → ⊥) → HasOther deeds key
-  other_snapshot : {name : List ℕ} → (version at : Version) (id other : Id12) → HasRef deeds From (Tag name) version id → HasRef deeds To (Tag name) at other → other ≢ id → HasOther deeds (Tag name)
-  has_tombstone : {name : List ℕ} → (bytes : List ℕ) → HasGot deeds To (Tombstone name) bytes → HasOther deeds (Tag name)
+  other_object : {key : Key} → (bytes there : List ℕ) (why : Why) (version : Version) (now : ℕ)
+      → Did deeds To (PutNew key bytes why) (New (Present version now)) → HasGot deeds To key there
+      → (IsFine key bytes there → ⊥) → HasOther deeds key
+  other_snapshot : {name : List ℕ} → (version at : Version) (id other : Id12)
+      → HasRef deeds From (Tag name) version id → HasRef deeds To (Tag name) at other → other ≢ id
+      → HasOther deeds (Tag name)
+  has_tombstone : {name : List ℕ} → (bytes : List ℕ) → HasGot deeds To (Tombstone name) bytes
+      → HasOther deeds (Tag name)
 
 -- a ref was to be put where one stood by then
 abbrev pub HasFound : List Deed → Version → Type 0
-HasFound deeds version = (key : Key) × IsRef key × (bytes : List ℕ) × (why : Why) × (now : ℕ) × Did deeds To (PutNew key bytes why) (New (Present version now))
+HasFound deeds version =
+    (key : Key) × IsRef key × (bytes : List ℕ) × (why : Why) × (now : ℕ)
+    × Did deeds To (PutNew key bytes why) (New (Present version now))
 
 -- a ref was to be put over that had moved on by then
 abbrev pub HasMoved : List Deed → Option Version → Type 0
-HasMoved deeds there = (key : Key) × IsRef key × (bytes : List ℕ) × (old : Version) × (now : ℕ) × Did deeds To (PutOver key bytes old Reset) (Over (Over_moved there now))
+HasMoved deeds there =
+    (key : Key) × IsRef key × (bytes : List ℕ) × (old : Version) × (now : ℕ)
+    × Did deeds To (PutOver key bytes old Reset) (Over (Over_moved there now))
 
 -- why it is refused
 abbrev pub Cause : List Deed → Refusal → Type 0
@@ -245,10 +272,13 @@ pub record IsCompared (deeds : List Deed) (key : Key) (bytes : List ℕ) : Type 
 
 -- so is each object in whose place one stood
 abbrev pub AreCompared : List Deed → Type 0
-AreCompared deeds = (key : Key) (bytes : List ℕ) (why : Why) (version : Version) (now : ℕ) → IsObject key → Did deeds To (PutNew key bytes why) (New (Present version now)) → IsCompared deeds key bytes
+AreCompared deeds =
+    (key : Key) (bytes : List ℕ) (why : Why) (version : Version) (now : ℕ) → IsObject key
+    → Did deeds To (PutNew key bytes why) (New (Present version now)) → IsCompared deeds key bytes
 
 -- ---- reports
--- Where it ends well: each listed ref was told of, what was put is counted, and no object differs from what stands in its place.
+-- Where it ends well: each listed ref was told of, what was put is counted, and no object differs
+-- from what stands in its place.
 pub record IsWhole (deeds : List Deed) (refs : List MirrorRef) (counts : Mirrored) : Type 0 where
   pub branches : IsPartDone deeds refs Branches
   pub tags : IsPartDone deeds refs Tags
@@ -259,8 +289,8 @@ abbrev pub EndsSo : List Deed → List MirrorRef → Result Mirrored Refusal →
 EndsSo deeds refs (Ok counts) = IsWhole deeds refs counts
 EndsSo deeds refs (Err why) = Cause deeds why
 
--- Whatever the end: what is told of refs is so; those that are told as put are the ones whose put was answered as done, in their order, so that none goes
--- untold; and it ended so.
+-- Whatever the end: what is told of refs is so; those that are told as put are the ones whose put
+-- was answered as done, in their order, so that none goes untold; and it ended so.
 pub record Reports (deeds : List Deed) (end : MirrorEnd) : Type 0 where
   pub refs : (r : MirrorRef) → Contains end.refs r → IsMirrored deeds r
   pub puts : refs_told end.refs ≡ refs_put deeds

@@ -1,5 +1,6 @@
 -- What replies to the operations of a mirror tell, of either store (own).
-use Rattle.std.specs.Prelude.{ℕ, nat_lt, bytes_eq, if◌then◌else◌, Bool, true, false, List, length, Option, Some, None, Result, Ok, Err}
+use Rattle.std.specs.Prelude.{ℕ, nat_lt, bytes_eq, if◌then◌else◌, Bool, true, false}
+use Rattle.std.specs.Prelude.{List, length, Option, Some, None, Result, Ok, Err}
 use Rattle.flat_tables.specs.declared.header.Kind.TheVariants as kinds
 use Rattle.flat_tables.specs.File.{file_limit}
 use Rattle.ice_ids.specs.declared.Id12.{Id12}
@@ -14,9 +15,11 @@ use Rattle.object_store.specs.declared.keys.Key.TheVariants.{Branch, Tag}
 use Rattle.object_store.specs.declared.events.Listed.{Listed}
 use Rattle.object_store.specs.declared.events.Got.TheVariants.{Found, Absent}
 use Rattle.object_store.specs.declared.events.New.TheVariants.{Done as New_done, Present}
-use Rattle.object_store.specs.declared.events.Over.TheVariants.{Done as Over_done, Moved as Over_moved}
+use Rattle.object_store.specs.declared.events.Over.TheVariants.{Done as Over_done}
+use Rattle.object_store.specs.declared.events.Over.TheVariants.{Moved as Over_moved}
 use Rattle.object_store.specs.declared.events.Reply.{Reply}
-use Rattle.object_store.specs.declared.events.Reply.TheVariants.{Got, New, Over, Listed as Is_listed}
+use Rattle.object_store.specs.declared.events.Reply.TheVariants.{Got, New, Over}
+use Rattle.object_store.specs.declared.events.Reply.TheVariants.{Listed as Is_listed}
 use Rattle.store_api.specs.declared.machines.Refusal.{Refusal}
 use Rattle.store_api.specs.declared.machines.Refusal.TheVariants as R
 use Rattle.repo_read.specs.declared.answers.Resolved.{Resolved}
@@ -52,7 +55,8 @@ if_there (Err why) = Err why
 
 -- the snapshot that a ref names and the version at which it does, if the ref is there
 abbrev pub ref_told : Side → Key → Reply → Result (Option Resolved) Refusal
-ref_told side key (Got (Found bytes version now)) = if_there (resolved_at version (at_key key (read_ref bytes)))
+ref_told side key (Got (Found bytes version now)) =
+    if_there (resolved_at version (at_key key (read_ref bytes)))
 ref_told side key (Got (Absent now)) = Ok None
 ref_told side key _ = Err (fault_of side)
 
@@ -84,7 +88,9 @@ moved_told _ = Err R.TargetFault
 -- ---- files of snapshots
 -- the file of a snapshot, which may not be longer than a file may be
 abbrev pub file_of : SnapshotFile → Result (List ℕ) Refusal
-file_of s = if nat_lt file_limit (length (snapshot_bytes s)) then Err (R.TooLarge kinds.Snapshot) else Ok (snapshot_bytes s)
+file_of s =
+    if nat_lt file_limit (length (snapshot_bytes s)) then Err (R.TooLarge kinds.Snapshot)
+    else Ok (snapshot_bytes s)
 
 abbrev pub same_parent : Option Id12 → Option Id12 → Bool
 same_parent None None = true
@@ -93,8 +99,10 @@ same_parent None (Some b) = false
 same_parent (Some a) None = false
 
 -- The file of a snapshot with this parent: the bytes that were got, where they name it.
-abbrev pub file_under : (parent : Option Id12) → (bytes : List ℕ) → SnapshotFile → Result (List ℕ) Refusal
-file_under parent bytes s = if same_parent s.parent parent then Ok bytes else file_of (record s { parent = parent })
+abbrev pub file_under : (parent : Option Id12) → (bytes : List ℕ) → SnapshotFile
+    → Result (List ℕ) Refusal
+file_under parent bytes s =
+    if same_parent s.parent parent then Ok bytes else file_of (record s { parent = parent })
 
 abbrev pub if_equal : Result (List ℕ) Refusal → Result (List ℕ) Refusal → Result Bool Refusal
 if_equal (Ok a) (Ok b) = Ok (bytes_eq a b)
@@ -109,10 +117,14 @@ if_read (Err unread.NoMemory) = Err R.NoMemory
 
 -- whether two snapshots differ in the parent alone
 abbrev pub same_but_parent : Option SnapshotFile → Option SnapshotFile → Result Bool Refusal
-same_but_parent (Some s) (Some t) = if_equal (file_of (record s { parent = None })) (file_of (record t { parent = None }))
+same_but_parent (Some s) (Some t) =
+    if_equal (file_of (record s { parent = None })) (file_of (record t { parent = None }))
 same_but_parent (Some s) None = Ok false
 same_but_parent None t = Ok false
 
--- whether the target's bytes are fine: they are the source's, or both are snapshots that differ in the parent alone
+-- whether the target's bytes are fine: they are the source's, or both are snapshots
+-- that differ in the parent alone
 abbrev pub is_fine : (id : Id12) → (bytes there : List ℕ) → Result Bool Refusal
-is_fine id bytes there = if bytes_eq bytes there then Ok true else same_but_parent (snapshot_by id bytes) (snapshot_by id there)
+is_fine id bytes there =
+    if bytes_eq bytes there then Ok true
+    else same_but_parent (snapshot_by id bytes) (snapshot_by id there)

@@ -1,5 +1,6 @@
 -- What a text stands for as a cutoff (own; instants as `jiff` reads them).
-use Rattle.std.specs.Prelude.{ℕ, ◌≡◌, ◌<◌, ◌≤◌, ◌/◌, ◌^◌, ℤ, pos, ◌<ℤ◌, List, length, drop, Ok, Err, slice_index, ◌==◌, MatchBool}
+use Rattle.std.specs.Prelude.{ℕ, ◌≡◌, ◌<◌, ◌≤◌, ◌/◌, ◌^◌, ℤ, pos, ◌<ℤ◌, List}
+use Rattle.std.specs.Prelude.{length, drop, Ok, Err, slice_index, ◌==◌, MatchBool}
 use Rattle.std.specs.Str.Parse.{IsNumeral, digits_value}
 use Rattle.jiff.specs.Words.{parse_timestamp, Error}
 use Rattle.moments.specs.declared.cutoffs.CutoffFault.{CutoffFault}
@@ -7,7 +8,8 @@ use Rattle.moments.specs.declared.cutoffs.CutoffFault.TheVariants.{Number, Insta
 
 -- the microseconds since 1970, rounded down, of the instant that jiff reads the text as
 abbrev pub IsMicros : List ℕ → ℕ → Type 0
-IsMicros text micros = (nanos : ℕ) × (parse_timestamp text ≡ Ok (pos nanos)) × (micros ≡ nanos / 1000)
+IsMicros text micros =
+    (nanos : ℕ) × (parse_timestamp text ≡ Ok (pos nanos)) × (micros ≡ nanos / 1000)
 
 abbrev pub RefusesInstant : List ℕ → CutoffFault → Type 0
 RefusesInstant text Number = ⊥
@@ -28,7 +30,10 @@ RefusesNumber text Early = ⊥
 
 -- a text that begins with `@` (64) is an instant, any other one a number
 abbrev pub StandsFor : List ℕ → ℕ → Type 0
-StandsFor text micros = MatchBool (slice_index text 0 == 64) (IsMicros (drop 1 text) micros) (IsNumber text micros)
+StandsFor text micros =
+    MatchBool (slice_index text 0 == 64) (IsMicros (drop 1 text) micros) (IsNumber text micros)
 
 abbrev pub Refuses : List ℕ → CutoffFault → Type 0
-Refuses text fault = MatchBool (slice_index text 0 == 64) (RefusesInstant (drop 1 text) fault) (RefusesNumber text fault)
+Refuses text fault =
+    MatchBool (slice_index text 0 == 64) (RefusesInstant (drop 1 text) fault)
+    (RefusesNumber text fault)

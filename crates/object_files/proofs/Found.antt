@@ -8,7 +8,7 @@ use Rattle.std.proofs.lemmas.Option.{same_Some, slice_get-map}
 use Rattle.std.proofs.lemmas.List.{take_more, map-append}
 use Rattle.std.proofs.lemmas.List.Elements.{recursion_from_All}
 use Rattle.std.proofs.lemmas.Map.Entries.{btree_map_get_place}
-use Rattle.folder.specs.Files.{Stored, IsName, IsBehind, HasName, TellsNames, HoldsNone}
+use Rattle.folder.specs.Files.{StoredFile, IsFileName, IsBehind, HasName, TellsNames, HoldsNone}
 use Rattle.ice_ids.specs.declared.Id12.{Id12}
 use Rattle.ice_ids.specs.Text.{id12_text}
 use Rattle.ice_ids.proofs.TextLaws.{id12_text-plain}
@@ -25,10 +25,10 @@ use Rattle.object_store.specs.Orders.{key_cmp, key_total}
 use Rattle.object_store.proofs.Slots.{same_key-true, same_key-refl}
 use Rattle.object_store.proofs.Ties.{same-tie, mapped}
 use Rattle.object_files.specs.declared.listing.Measures.{Measures}
-use Rattle.object_files.specs.Paths.{IsKey, NamesKey, path_in}
+use Rattle.object_files.specs.Paths.{IsKey, NamesKey, folder_name, path_in}
 use Rattle.object_files.specs.Contents.{object_at, object_of, ListsAll}
 use Rattle.object_files.specs.Listings.{IsListed}
-use Rattle.object_files.specs.inside.Finding.{IsOfPart, entry_of, IsMeasuredBy, AllRight, Has, Lies, AddsKey, AddsName, AddsTwo, AddsEntry, AllFound, folder_name, entry_name, behind_entry}
+use Rattle.object_files.specs.inside.Finding.{IsOfPart, entry_of, IsMeasuredBy, AllRight, Has, Lies, AddsKey, AddsName, AddsTwo, AddsEntry, AllFound, entry_name, behind_entry}
 use Rattle.object_files.proofs.Apart.{names_differ}
 
 -- ---- one object more
@@ -46,10 +46,10 @@ module _ (old new : BTreeMap Key Measures) (key : Key) (v : Measures) (updates :
   has-one : Has new key
   has-one = (v, at-key key true (same-tie key key ∙ same_key-refl key))
 
-  pub adds-one : (files : List ℕ → Option Stored) (root : List ℕ) (part : Part) → AddsKey files root part key old new
+  pub adds-one : (files : List ℕ → Option StoredFile) (root : List ℕ) (part : Part) → AddsKey files root part key old new
   adds-one files root part = record { stay = stay-one; added = λ lies. has-one }
 
-  pub right-one : (files : List ℕ → Option Stored) (root : List ℕ) → AllRight files root old → IsMeasuredBy v (files (path_in root key)) → AllRight files root new
+  pub right-one : (files : List ℕ → Option StoredFile) (root : List ℕ) → AllRight files root old → IsMeasuredBy v (files (path_in root key)) → AllRight files root new
   right-one files root right here = λ q m at. decide q m at (is_at (key_cmp key) q) refl
     where
       decide : (q : Key) (m : Measures) → get key_cmp new q ≡ Some m → (b : Bool) → is_at (key_cmp key) q ≡ b → IsMeasuredBy m (files (path_in root q))
@@ -59,13 +59,13 @@ module _ (old new : BTreeMap Key Measures) (key : Key) (v : Measures) (updates :
           subst (λ (k : Key). IsMeasuredBy m (files (path_in root k))) same (subst (λ (w : Measures). IsMeasuredBy w (files (path_in root key))) measures here)
       decide q m at false is = right q m (sym (at-key q false is) ∙ at)
 
-pub right-kept : (files : List ℕ → Option Stored) (root : List ℕ) (old new : BTreeMap Key Measures) → AllRight files root old → IsUnchanged old new → AllRight files root new
+pub right-kept : (files : List ℕ → Option StoredFile) (root : List ℕ) (old new : BTreeMap Key Measures) → AllRight files root old → IsUnchanged old new → AllRight files root new
 right-kept files root old new right same = λ q m at. right q m (ap (λ es. lookup (is_at (key_cmp q)) es) (sym same) ∙ at)
 
-pub adds-none : (files : List ℕ → Option Stored) (root : List ℕ) (part : Part) (key : Key) (found : BTreeMap Key Measures) → (part_of key ≡ part → files (path_in root key) ≡ None) → AddsKey files root part key found found
+pub adds-none : (files : List ℕ → Option StoredFile) (root : List ℕ) (part : Part) (key : Key) (found : BTreeMap Key Measures) → (part_of key ≡ part → files (path_in root key) ≡ None) → AddsKey files root part key found found
 adds-none files root part key found none = record { stay = λ q has. has; added = λ lies. absurd (lies.there (none lies.of)) }
 
-pub name-some : (files : List ℕ → Option Stored) (root : List ℕ) (part : Part) (name : List ℕ) (key : Key) (old new : BTreeMap Key Measures) → IsKey key × (name ≡ key_name key) → AddsKey files root part key old new → AddsName files root part name old new
+pub name-some : (files : List ℕ → Option StoredFile) (root : List ℕ) (part : Part) (name : List ℕ) (key : Key) (old new : BTreeMap Key Measures) → IsKey key × (name ≡ key_name key) → AddsKey files root part key old new → AddsName files root part name old new
 name-some files root part name key old new is adds = record {
   stay = adds.stay;
   added = λ q lies same.
@@ -77,7 +77,7 @@ pub named-some : {E : Type 0} (name : List ℕ) (r : Result (Option Key) E) (fou
 named-some name (Ok o) found key names ok some = let same : o ≡ Some key = cc in subst (λ (x : Option Key). NamesKey name x) same names
 named-some name (Err e) found key names ok some = let bad : Err e ≡ Ok found = ok in cc
 
-pub name-none : (files : List ℕ → Option Stored) (root : List ℕ) (part : Part) (name : List ℕ) (found : BTreeMap Key Measures) → ((key : Key) → IsKey key → name ≢ key_name key) → AddsName files root part name found found
+pub name-none : (files : List ℕ → Option StoredFile) (root : List ℕ) (part : Part) (name : List ℕ) (found : BTreeMap Key Measures) → ((key : Key) → IsKey key → name ≢ key_name key) → AddsName files root part name found found
 name-none files root part name found none = record { stay = λ q has. has; added = λ q lies same. absurd (none q lies.known same) }
 
 -- ---- names in the part's folder
@@ -96,7 +96,7 @@ entry-file part (Tag name) is plain = absurd (plain (inr (sym is)))
 entry-file part (Tombstone name) is plain = absurd (plain (inr (sym is)))
 entry-file _ _ is plain = cc
 
-pub entry-plain : (files : List ℕ → Option Stored) (root : List ℕ) (part : Part) (name path : List ℕ) (old new : BTreeMap Key Measures) → (IsRefs part → ⊥) → path ≡ folder_name part ++ codes "/" ++ name → AddsName files root part path old new → AddsEntry files root part name old new
+pub entry-plain : (files : List ℕ → Option StoredFile) (root : List ℕ) (part : Part) (name path : List ℕ) (old new : BTreeMap Key Measures) → (IsRefs part → ⊥) → path ≡ folder_name part ++ codes "/" ++ name → AddsName files root part path old new → AddsEntry files root part name old new
 entry-plain files root part name path old new plain is adds = record {
   stay = adds.stay;
   added = λ q lies same. adds.added q lies (is ∙ ap (λ (n : List ℕ). folder_name part ++ codes "/" ++ n) same ∙ entry-file part q lies.of plain);
@@ -119,7 +119,7 @@ entry-ref part (Lease id) is (inl refs) = let bad : Leases ≡ Branches = is ∙
 entry-ref part (Lease id) is (inr refs) = let bad : Leases ≡ Tags = is ∙ refs in cc
 entry-ref _ _ is refs = cc
 
-pub adds-two : (files : List ℕ → Option Stored) (root : List ℕ) (part : Part) (folder : List ℕ) (old mid new : BTreeMap Key Measures) → AddsName files root part (folder ++ codes "/" ++ codes "ref.json") old mid → AddsName files root part (folder ++ codes "/" ++ codes "ref.json.deleted") mid new
+pub adds-two : (files : List ℕ → Option StoredFile) (root : List ℕ) (part : Part) (folder : List ℕ) (old mid new : BTreeMap Key Measures) → AddsName files root part (folder ++ codes "/" ++ codes "ref.json") old mid → AddsName files root part (folder ++ codes "/" ++ codes "ref.json.deleted") mid new
     → AddsTwo files root part (folder ++ codes "/ref.json") (folder ++ codes "/ref.json.deleted") old new
 adds-two files root part folder old mid new adds more = record {
   stay = λ q has. more.stay q (adds.stay q has);
@@ -127,7 +127,7 @@ adds-two files root part folder old mid new adds more = record {
   two = λ q lies same. more.added q lies (append_assoc folder (codes "/") (codes "ref.json.deleted") ∙ same);
 }
 
-pub entry-refs : (files : List ℕ → Option Stored) (root : List ℕ) (part : Part) (name folder : List ℕ) (old new : BTreeMap Key Measures) → IsRefs part → folder ≡ folder_name part ++ codes "/" ++ name
+pub entry-refs : (files : List ℕ → Option StoredFile) (root : List ℕ) (part : Part) (name folder : List ℕ) (old new : BTreeMap Key Measures) → IsRefs part → folder ≡ folder_name part ++ codes "/" ++ name
     → AddsTwo files root part (folder ++ codes "/ref.json") (folder ++ codes "/ref.json.deleted") old new → AddsEntry files root part name old new
 entry-refs files root part name folder old new refs is adds = record {
   stay = adds.stay;
@@ -157,7 +157,7 @@ get-append [] x name (suc k) at = let bad : None ≡ Some name = sym (get-nil k)
 get-append (y ∷ xs) x name zero at = inl at
 get-append (y ∷ xs) x name (suc k) at = get-append xs x name k at
 
-pub none-found : (files : List ℕ → Option Stored) (root : List ℕ) (part : Part) (found : BTreeMap Key Measures) → AllFound files root part [] found
+pub none-found : (files : List ℕ → Option StoredFile) (root : List ℕ) (part : Part) (found : BTreeMap Key Measures) → AllFound files root part [] found
 none-found files root part found = λ key lies has. let bad : None ≡ Some (entry_name key) = sym (get-nil has.place) ∙ has.here in cc
 
 pub map-more : (names : List (String Global)) (i : ℕ) (name : String Global) → i < length names → get_or names i name ≡ name → map string_bytes (take (i + 1) names) ≡ map string_bytes (take i names) ++ string_bytes name ∷ []
@@ -165,7 +165,7 @@ map-more names i name l here =
     ap (λ (ns : List (String Global)). map string_bytes ns) (take_more names i name l ∙ ap (λ (n : String Global). take i names ++ n ∷ []) here)
     ∙ map-append string_bytes (take i names) (name ∷ [])
 
-pub more-found : (files : List ℕ → Option Stored) (root : List ℕ) (part : Part) (names more : List (List ℕ)) (name : List ℕ) (old new : BTreeMap Key Measures) → more ≡ names ++ name ∷ []
+pub more-found : (files : List ℕ → Option StoredFile) (root : List ℕ) (part : Part) (names more : List (List ℕ)) (name : List ℕ) (old new : BTreeMap Key Measures) → more ≡ names ++ name ∷ []
     → AllFound files root part names old → AddsEntry files root part name old new → AllFound files root part more new
 more-found files root part names more name old new is all adds = λ key lies has.
     ⊎_elim (λ earlier. adds.stay key (all key lies (record { place = has.place; here = earlier })))
@@ -173,29 +173,29 @@ more-found files root part names more name old new is all adds = λ key lies has
     (get-append names name (entry_name key) has.place (sym (ap (λ (ns : List (List ℕ)). slice_get ns has.place) is) ∙ has.here))
 
 -- ---- where an object lies
-name-from : (P : ℕ → Type 0) → ((c : ℕ) → P c → c ≢ 47) → (text : List ℕ) → AllByRecursion P text → IsName text
+name-from : (P : ℕ → Type 0) → ((c : ℕ) → P c → c ≢ 47) → (text : List ℕ) → AllByRecursion P text → IsFileName text
 name-from P plain [] all = tt
 name-from P plain (c ∷ text) all = (plain c all.0, name-from P plain text all.1)
 
-id-name : (id : Id12) → IsName (id12_text id)
+id-name : (id : Id12) → IsFileName (id12_text id)
 id-name id = name-from (λ c. (47 < c) × (c < 91)) (λ c is same. absurd (omega arith)) (id12_text id) (recursion_from_All (λ c. (47 < c) × (c < 91)) (id12_text id) (id12_text-plain id))
 
 not-barred : (c : ℕ) → is_barred c ≡ false → c ≢ 47
 not-barred c free same = let bad : is_barred 47 ≡ false = ap is_barred (sym same) ∙ free in cc
 
-ref-name : (name : List ℕ) → IsRefName name → IsName name
+ref-name : (name : List ℕ) → IsRefName name → IsFileName name
 ref-name name known = name-from (λ c. is_barred c ≡ false) not-barred name (recursion_from_All (λ c. is_barred c ≡ false) name (IsPlainName-IsRefName name known).plain)
 
 apart-from : (m n : ℕ) → m < n → n ≡ m → ⊥
 apart-from m n l same = omega arith
 
-branch-name : (name : List ℕ) → IsName name → IsName (codes "branch." ++ name)
+branch-name : (name : List ℕ) → IsFileName name → IsFileName (codes "branch." ++ name)
 branch-name name plain = (apart-from 47 98 (omega arith), (apart-from 47 114 (omega arith), (apart-from 47 97 (omega arith), (apart-from 47 110 (omega arith), (apart-from 47 99 (omega arith), (apart-from 47 104 (omega arith), ((λ same. apart-from 46 47 (omega arith) (sym same)), plain)))))))
 
-tag-name : (name : List ℕ) → IsName name → IsName (codes "tag." ++ name)
+tag-name : (name : List ℕ) → IsFileName name → IsFileName (codes "tag." ++ name)
 tag-name name plain = (apart-from 47 116 (omega arith), (apart-from 47 97 (omega arith), (apart-from 47 103 (omega arith), ((λ same. apart-from 46 47 (omega arith) (sym same)), plain))))
 
-pub entry-is-name : (key : Key) → IsKey key → IsName (entry_name key)
+pub entry-is-name : (key : Key) → IsKey key → IsFileName (entry_name key)
 entry-is-name (Snapshot id) known = id-name id
 entry-is-name (Manifest id) known = id-name id
 entry-is-name (Txn id) known = id-name id
@@ -238,13 +238,13 @@ in-folder root part key is =
     ∙ sym (append_assoc (root ++ codes "/") folder (codes "/" ++ (entry ++ behind)))
     ∙ sym (append_assoc (root ++ codes "/" ++ folder) (codes "/") (entry ++ behind))
 
-pub told-name : (files : List ℕ → Option Stored) (root : List ℕ) (part : Part) (folder : List ℕ) (names : List (List ℕ)) → folder ≡ root ++ codes "/" ++ folder_name part → TellsNames files folder names → (key : Key) → Lies files root part key → HasName names (entry_name key)
+pub told-name : (files : List ℕ → Option StoredFile) (root : List ℕ) (part : Part) (folder : List ℕ) (names : List (List ℕ)) → folder ≡ root ++ codes "/" ++ folder_name part → TellsNames files folder names → (key : Key) → Lies files root part key → HasName names (entry_name key)
 told-name files root part folder names is tells key lies =
     let path : path_in root key ≡ folder ++ codes "/" ++ entry_name key ++ behind_entry key =
     in-folder root part key lies.of ∙ ap (λ (f : List ℕ). f ++ codes "/" ++ (entry_name key ++ behind_entry key)) (sym is) ∙ sym (append_assoc (folder ++ codes "/") (entry_name key) (behind_entry key)) in
     tells (entry_name key) (behind_entry key) (entry-is-name key lies.known) (behind-is key) (λ none. lies.there (ap files path ∙ none))
 
-pub none-lies : (files : List ℕ → Option Stored) (root : List ℕ) (part : Part) (folder : List ℕ) → folder ≡ root ++ codes "/" ++ folder_name part → HoldsNone files folder → (key : Key) → Lies files root part key → ⊥
+pub none-lies : (files : List ℕ → Option StoredFile) (root : List ℕ) (part : Part) (folder : List ℕ) → folder ≡ root ++ codes "/" ++ folder_name part → HoldsNone files folder → (key : Key) → Lies files root part key → ⊥
 none-lies files root part folder is none key lies =
     lies.there (ap files (in-folder root part key lies.of ∙ ap (λ (f : List ℕ). f ++ codes "/" ++ (entry_name key ++ behind_entry key)) (sym is)) ∙ none (entry_name key ++ behind_entry key))
 
@@ -261,17 +261,17 @@ place-of : (key : Key) (m : Measures) (entries : List (Key × Measures)) → loo
 place-of key m [] at = let bad : None ≡ Some m = at in cc
 place-of key m (e ∷ es) at = place-in key m e es (is_at (key_cmp key) e.0) refl at (λ rest. place-of key m es rest)
 
-measured-entry : (files : List ℕ → Option Stored) (root : List ℕ) (part : Part) (key : Key) (m : Measures) (file : Option Stored) → files (path_in root key) ≡ file → IsMeasuredBy m file → part_of key ≡ part → IsEntry (object_at files root) part (entry_of (key, m))
+measured-entry : (files : List ℕ → Option StoredFile) (root : List ℕ) (part : Part) (key : Key) (m : Measures) (file : Option StoredFile) → files (path_in root key) ≡ file → IsMeasuredBy m file → part_of key ≡ part → IsEntry (object_at files root) part (entry_of (key, m))
 measured-entry files root part key m None is measured of = absurd measured
 measured-entry files root part key m (Some file) is measured of = record {
   stored = object_of key file;
-  stands = ap (λ (f : Option Stored). option_map (object_of key) f) is;
+  stands = ap (λ (f : Option StoredFile). option_map (object_of key) f) is;
   part_is = of;
   size = measured.0;
   created = measured.1;
 }
 
-module _ (files : List ℕ → Option Stored) (root : List ℕ) (part : Part) (found : BTreeMap Key Measures) (of : IsOfPart part found) (right : AllRight files root found) where
+module _ (files : List ℕ → Option StoredFile) (root : List ℕ) (part : Part) (found : BTreeMap Key Measures) (of : IsOfPart part found) (right : AllRight files root found) where
   entry-listed : (k : ℕ) (e : Entry) → slice_get (map entry_of found.entries) k ≡ Some e → IsEntry (object_at files root) part e
   entry-listed k e at =
       let row = mapped entry_of found.entries k e at in
@@ -293,15 +293,15 @@ module _ (files : List ℕ → Option Stored) (root : List ℕ) (part : Part) (f
   lists-all entries is listed all = record {
     right = λ k e at. entry-listed k e (sym (ap (λ (es : List Entry). slice_get es k) is) ∙ at);
     whole = λ key s known in-part at.
-        let there : files (path_in root key) ≢ None = λ none. let bad : None ≡ Some s = sym (ap (λ (f : Option Stored). option_map (object_of key) f) none) ∙ at in cc in
+        let there : files (path_in root key) ≢ None = λ none. let bad : None ≡ Some s = sym (ap (λ (f : Option StoredFile). option_map (object_of key) f) none) ∙ at in cc in
         subst (λ (es : List Entry). HasEntry es key) (sym is) (entry-found key (all key (record { known = known; of = in-part; there = there })));
     ascending = listed.ascending;
   }
 
-pub nothing-lies : (files : List ℕ → Option Stored) (root : List ℕ) (part : Part) → IsListed part [] → ((key : Key) → Lies files root part key → ⊥) → ListsAll (object_at files root) part []
+pub nothing-lies : (files : List ℕ → Option StoredFile) (root : List ℕ) (part : Part) → IsListed part [] → ((key : Key) → Lies files root part key → ⊥) → ListsAll (object_at files root) part []
 nothing-lies files root part listed none = record {
   right = λ k e at. let bad : None ≡ Some e = sym (get-no-entry k) ∙ at in cc;
-  whole = λ key s known in-part at. absurd (none key (record { known = known; of = in-part; there = λ missing. some-none s (sym (ap (λ (f : Option Stored). option_map (object_of key) f) missing) ∙ at) }));
+  whole = λ key s known in-part at. absurd (none key (record { known = known; of = in-part; there = λ missing. some-none s (sym (ap (λ (f : Option StoredFile). option_map (object_of key) f) missing) ∙ at) }));
   ascending = listed.ascending;
 }
   where

@@ -1,12 +1,12 @@
 //! Listings of the directory.
 
-ghost use Rattle.std.specs.Prelude.{◌≡◌, ◌++◌, Option, None, Ok, IfOk, IfSome, OnOk, IsTrue, MatchOption, map, codes, string_bytes};
-ghost use Rattle.folder.specs.Files.{Stored, IsFileSeen, TellsNames, HoldsNone};
+ghost use Rattle.std.specs.Prelude.{◌≡◌, ◌++◌, Option, None, Some, Ok, IfOk, IfErr, IfSome, OnOk, IsTrue, MatchOption, map, codes, string_bytes};
+ghost use Rattle.folder.specs.Files.{StoredFile, IsFileSeen, TellsNames, HoldsNone};
 ghost use Rattle.object_store.specs.Machine.{part_of};
-ghost use Rattle.object_files.specs.Listings.{IsListed};
+ghost use Rattle.object_files.specs.Listings.{IsFaultIn, IsListed};
 ghost use Rattle.object_files.specs.Contents.{object_at, ListsAll};
-ghost use Rattle.object_files.specs.Paths.{path_in};
-ghost use Rattle.object_files.specs.inside.Finding.{IsOfPart, entry_of, IsMeasuredBy, AllRight, AddsKey, AddsName, AddsTwo, AddsEntry, AllFound, folder_name};
+ghost use Rattle.object_files.specs.Paths.{folder_name, path_in};
+ghost use Rattle.object_files.specs.inside.Finding.{IsOfPart, entry_of, IsMeasuredBy, AllRight, AddsKey, AddsName, AddsTwo, AddsEntry, AllFound};
 
 use crate::names::{key_of, path_of};
 use folder::{FileFault, Folder, Seen, Trouble};
@@ -30,6 +30,8 @@ pub struct ListFault {
 }
 
 impl From<FileFault> for ListFault {
+    ghost from_gives = { λ fault told. told ≡ record { fault = fault; path = None } };
+
     fn from(fault: FileFault) -> ListFault {
         ListFault { fault, path: None }
     }
@@ -37,7 +39,8 @@ impl From<FileFault> for ListFault {
 
 /// What was done at a path in the part's folder.
 fn located<T>(path: String, done: Result<T, Trouble>) -> Result<T, ListFault>
-    ensures { IfOk result (λ value. done ≡ Ok value) }
+    ensures done { IfOk result (λ value. done ≡ Ok value) }
+    ensures path { IfErr result (λ fault. fault.path ≡ Some path) }
 {
     match done {
         Ok(value) => Ok(value),
@@ -77,7 +80,7 @@ pub fn joined(alloc: Global, folder: &str, name: &str) -> Result<String, AllocEr
 
 /// What was seen of a file, as its measures.
 fn measures_of(seen: Option<Seen>) -> Option<Measures>
-    ensures { (file : Option Stored) → IsFileSeen file seen
+    ensures { (file : Option StoredFile) → IsFileSeen file seen
         → MatchOption result (file ≡ None) (λ measures. IsMeasuredBy measures file) }
 {
     match seen {
@@ -96,8 +99,9 @@ fn seen_at<F: Folder>(
     root: &str,
     key: &Key,
 ) -> Result<Option<Seen>, ListFault>
-    ensures { IsTrue F.tells
+    ensures seen { IsTrue F.tells
         → IfOk result (IsFileSeen (F.files tree.now (path_in root.now key.now))) }
+    ensures told { IfErr result (IsFaultIn root.now (part_of key.now)) }
 {
     let path = in_memory(path_of(alloc, root, key))?;
     let found = tree.file(path.as_str());
@@ -117,6 +121,7 @@ fn measures_at<F: Folder>(
         → IfOk result (λ found. MatchOption found (part_of key.now ≡ part
         → F.files tree.now (path_in root.now key.now) ≡ None)
         (λ measures. IsMeasuredBy measures (F.files tree.now (path_in root.now key.now)))) }
+    ensures told { IfErr result (IsFaultIn root.now part) }
 {
     if key.part() != part {
         return Ok(None);
@@ -139,6 +144,7 @@ fn add_key<F: Folder>(
     ensures right { IsTrue F.tells → AllRight (F.files tree.now) root.now found.new }
     ensures adds { IsTrue F.tells
         → OnOk result (AddsKey (F.files tree.now) root.now part key found.old found.new) }
+    ensures told { IfErr result (IsFaultIn root.now part) }
 {
     let Some(measures) = measures_at(tree, alloc, root, part, &key)? else {
         return Ok(());
@@ -164,6 +170,7 @@ fn add_file<F: Folder>(
     ensures right { IsTrue F.tells → AllRight (F.files tree.now) root.now found.new }
     ensures adds { IsTrue F.tells
         → OnOk result (AddsName (F.files tree.now) root.now part name.now found.old found.new) }
+    ensures told { IfErr result (IsFaultIn root.now part) }
 {
     match in_memory(key_of(alloc, name))? {
         Some(key) => add_key(tree, alloc, root, part, key, found),
@@ -189,6 +196,7 @@ fn add_in<F: Folder>(
         → OnOk result
         (AddsName (F.files tree.now) root.now part (folder.now ++ codes "/" ++ name.now) found.old
         found.new) }
+    ensures told { IfErr result (IsFaultIn root.now part) }
 {
     let path = in_memory(joined(alloc, folder, name))?;
     add_file(tree, alloc, root, part, path.as_str(), found)
@@ -210,6 +218,7 @@ fn add_refs<F: Folder>(
     ensures adds { IsTrue F.tells
         → OnOk result (AddsTwo (F.files tree.now) root.now part (folder.now ++ codes "/ref.json")
         (folder.now ++ codes "/ref.json.deleted") found.old found.new) }
+    ensures told { IfErr result (IsFaultIn root.now part) }
 {
     add_in(tree, alloc, root, part, folder, "ref.json", found)?;
     add_in(tree, alloc, root, part, folder, "ref.json.deleted", found)
@@ -231,6 +240,7 @@ fn add_found<F: Folder>(
     ensures adds { IsTrue F.tells
         → OnOk result (AddsEntry (F.files tree.now) root.now part file_name.now found.old
         found.new) }
+    ensures told { IfErr result (IsFaultIn root.now part) }
 {
     let path = in_memory(joined(alloc, folder_of(part), file_name))?;
     match part {
@@ -251,6 +261,7 @@ fn found_in<F: Folder>(
     ensures right { IsTrue F.tells → IfOk result (AllRight (F.files tree.now) root.now) }
     ensures all { IsTrue F.tells
         → IfOk result (AllFound (F.files tree.now) root.now part (map string_bytes names.now)) }
+    ensures told { IfErr result (IsFaultIn root.now part) }
 {
     let mut found = Found::new(alloc);
     for name in names {
@@ -303,6 +314,7 @@ pub fn list_files<F: Folder>(
     ensures listed { IfOk result (IsListed part) }
     ensures all { IsTrue F.tells
         → IfOk result (ListsAll (object_at (F.files tree.now) root.now) part) }
+    ensures told { IfErr result (IsFaultIn root.now part) }
 {
     let Some(names) = names_in(tree, alloc, root, part)? else {
         return Ok(Entries::new(alloc));

@@ -1,10 +1,10 @@
 //! Names of objects in a directory, and their reading.
 
-ghost use Rattle.std.specs.Prelude.{◌≡◌, ◌≢◌, ◌++◌, List, ℕ, IfOk, MatchOption, string_bytes};
+ghost use Rattle.std.specs.Prelude.{◌≡◌, ◌≢◌, ◌<◌, ◌⊎◌, ◌↔◌, ◌++◌, List, ℕ, IfOk, IsTrue, MatchOption, length, slice_index, string_bytes};
 ghost use Rattle.ice_base.specs.Names.{IsRefName};
 ghost use Rattle.ice_ids.specs.declared.Id12.{Id12};
 ghost use Rattle.ice_ids.specs.Text.{IsId12, id12_text};
-ghost use Rattle.object_files.specs.Paths.{NamesKey, aside_folder_in, path_in};
+ghost use Rattle.object_files.specs.Paths.{NamesKey, aside_folder_in, path_in, IsAsideName};
 
 use ice_base::{NameFault, RefName};
 use ice_ids::Id12;
@@ -128,8 +128,21 @@ pub fn aside_folder(alloc: Global, root: &str) -> Result<String, AllocError>
     Ok(folder)
 }
 
+/// Whether a name begins with a plus or with a needless zero.
+fn is_dressed(name: &str) -> bool
+    ensures { IsTrue result ↔ ((slice_index name.now 0 ≡ 43)
+        ⊎ ((slice_index name.now 0 ≡ 48) × (1 < length name.now))) }
+{
+    matches!(name.as_bytes(), [b'+', ..] | [b'0', _, ..])
+}
+
 /// Whether a name in the folder of files aside is one that is given there: a number below 2^32, without
 /// a sign or needless zeros.
-pub fn is_aside(name: &str) -> bool {
-    matches!(name.as_bytes(), [b'0'] | [b'1'..=b'9', ..]) && name.parse::<u32>().is_ok()
+pub fn is_aside(name: &str) -> bool
+    ensures { IsTrue result ↔ IsAsideName name.now }
+{
+    if is_dressed(name) {
+        return false;
+    }
+    name.parse::<u32>().is_ok()
 }

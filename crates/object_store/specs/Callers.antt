@@ -1,10 +1,16 @@
 -- Who calls a store, and what a call adds to its journal.
-use Rattle.std.specs.Prelude.{◌≡◌, ◌≢◌, ℕ, ◌+◌, ◌≤◌, ◌&&◌, nat_le, nat_lt, Bool, true, false, IsTrue, List, [], ◌∷◌, ◌++◌, Option, Some, None, Result, Ok, Err}
+use Rattle.std.specs.Prelude.{◌≡◌, ◌≢◌, ℕ, ◌+◌, ◌≤◌, ◌&&◌, nat_le, nat_lt, Bool, true, false}
+use Rattle.std.specs.Prelude.{IsTrue, List, [], ◌∷◌, ◌++◌, Option, Some, None, Result, Ok, Err}
 use Rattle.ice_base.specs.Ends.{Rose}
 use Rattle.object_store.specs.declared.events.Op.{Op}
 use Rattle.object_store.specs.declared.events.Reply.{Reply}
-use Rattle.object_store.specs.declared.events.Op.TheVariants.{Get, PutNew, PutOver, Remove, RemoveAt, List as ListPart}
-use Rattle.object_store.specs.declared.events.Reply.TheVariants.{Got as Is_got, New as Is_new, Over as Is_over, Gone as Is_gone, GoneAt as Is_gone_at, Listed as Is_listed, Failed as Reply_failed}
+use Rattle.object_store.specs.declared.events.Op.TheVariants.{Get, PutNew, PutOver, Remove}
+use Rattle.object_store.specs.declared.events.Op.TheVariants.{RemoveAt, List as ListPart}
+use Rattle.object_store.specs.declared.events.Reply.TheVariants.{Got as Is_got, New as Is_new}
+use Rattle.object_store.specs.declared.events.Reply.TheVariants.{Over as Is_over, Gone as Is_gone}
+use Rattle.object_store.specs.declared.events.Reply.TheVariants.{GoneAt as Is_gone_at}
+use Rattle.object_store.specs.declared.events.Reply.TheVariants.{Listed as Is_listed}
+use Rattle.object_store.specs.declared.events.Reply.TheVariants.{Failed as Reply_failed}
 use Rattle.object_store.specs.declared.events.Event.{Event}
 use Rattle.object_store.specs.declared.events.StoreFault.{StoreFault}
 use Rattle.object_store.specs.declared.events.StoreFault.TheVariants.{Failed, NoMemory}
@@ -12,8 +18,8 @@ use Rattle.object_store.specs.Machine.{IsAnswered}
 use Rattle.object_store.specs.Journals.{Each}
 
 -- Who calls: whether the store tells it the journal, its client number, and the range of numbers
--- that nobody else has (from `low` to before `end`, or without end). `home` names the cell of a shared
--- store, and is empty of a whole one.
+-- that nobody else has (from `low` to before `end`, or without end). `home` names the cell of a
+-- shared store, and is empty of a whole one.
 pub record Caller : Type 0 where
   pub tells : Bool
   pub number : ℕ
@@ -37,18 +43,21 @@ pub record View : Type 0 where
   pub faults : ℕ
 
 -- answered as the machine does, and allowed
-pub record IsGood (may : List Event → Op → Type 0) (journal : List Event) (event : Event) : Type 0 where
+pub record IsGood (may : List Event → Op → Type 0) (journal : List Event)
+    (event : Event) : Type 0 where
   pub legal : IsAnswered journal event
   pub polite : may journal event.op
 
 -- good, and not of this caller
-pub record IsOther (may : List Event → Op → Type 0) (by : Caller) (journal : List Event) (event : Event) : Type 0 where
+pub record IsOther (may : List Event → Op → Type 0) (by : Caller) (journal : List Event)
+    (event : Event) : Type 0 where
   pub good : IsGood may journal event
   pub other : event.client ≢ by.number
   pub not_owned : owns by event.client ≡ false
 
 -- From old to new, others made good events.
-pub record Waits (may : List Event → Op → Type 0) (by : Caller) (old new : List Event) : Type 0 where
+pub record Waits (may : List Event → Op → Type 0) (by : Caller)
+    (old new : List Event) : Type 0 where
   pub between : List Event
   pub others : Each (IsOther may by) old between
   pub is : new ≡ old ++ between
@@ -69,17 +78,21 @@ abbrev pub own_event : Caller → Op → Reply → ℕ → Event
 own_event by op reply time = record { client = by.number; op = op; reply = reply; time = time }
 
 -- From old to new, others made good events, and then this caller made this event.
-pub record Makes (may : List Event → Op → Type 0) (by : Caller) (op : Op) (reply : Reply) (old new : List Event) : Type 0 where
+pub record Makes (may : List Event → Op → Type 0) (by : Caller) (op : Op) (reply : Reply)
+    (old new : List Event) : Type 0 where
   pub middle : List Event
   pub time : ℕ
   pub waits : Waits may by old middle
   pub answered : IsAnswered middle (own_event by op reply time)
   pub is : new ≡ middle ++ own_event by op reply time ∷ []
 
--- What a call of an operation did. An answer and a failure are one event, and want of memory is none.
-abbrev pub Did : {A : Type 0} → (List Event → Op → Type 0) → (A → Reply) → Caller → Op → Result A StoreFault → List Event → List Event → Type 0
+-- What a call of an operation did. An answer and a failure are one
+-- event, and want of memory is none.
+abbrev pub Did : {A : Type 0} → (List Event → Op → Type 0) → (A → Reply) → Caller → Op
+    → Result A StoreFault → List Event → List Event → Type 0
 Did may reply by op (Ok a) old new = Makes may by op (reply a) old new
-Did may reply by op (Err Failed) old new = (done : Bool) × Makes may by op (Reply_failed done) old new
+Did may reply by op (Err Failed) old new =
+    (done : Bool) × Makes may by op (Reply_failed done) old new
 Did may reply by op (Err NoMemory) old new = Waits may by old new
 
 -- the count of faults never falls, and `Failed` is told only where it rose
@@ -90,7 +103,8 @@ Counted (Err NoMemory) m n = m ≤ n
 
 -- What a call of an operation leaves: the caller stays, the journal goes on by what was done, and
 -- the faults are counted.
-pub record Called {A : Type 0} (may : List Event → Op → Type 0) (reply : A → Reply) (op : Op) (result : Result A StoreFault) (old new : View) : Type 0 where
+pub record Called {A : Type 0} (may : List Event → Op → Type 0) (reply : A → Reply) (op : Op)
+    (result : Result A StoreFault) (old new : View) : Type 0 where
   pub same : new.caller ≡ old.caller
   pub did : IsTrue old.caller.tells → Did may reply old.caller op result old.seen new.seen
   pub counted : Counted result old.faults new.faults

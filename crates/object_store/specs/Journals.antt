@@ -16,4 +16,5 @@ WasPut journal key = (bytes : List ℕ) × (first_put journal key ≡ Some bytes
 -- the put at this position left these bytes at the key
 pub record StoodAt (journal : List Event) (key : Key) (version : ℕ) (bytes : List ℕ) : Type 0 where
   pub created : ℕ
-  pub stood : found (take (version + 1) journal) key ≡ Some (record { bytes = bytes; version = version; created = created })
+  pub stood : found (take (version + 1) journal) key
+      ≡ Some (record { bytes = bytes; version = version; created = created })

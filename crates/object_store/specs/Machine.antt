@@ -1,6 +1,7 @@
 -- The object store as a machine over the list of its events (own; Icechunk's specification asks of
 -- a store that it puts conditionally, and that what was put can be read).
-use Rattle.std.specs.Prelude.{◌≡◌, ℕ, ◌+◌, ◌<◌, ◌≤◌, ◌^◌, ◌==◌, Bool, true, false, if◌then◌else◌, List, [], ◌∷◌, length, Option, Some, None, slice_get}
+use Rattle.std.specs.Prelude.{◌≡◌, ℕ, ◌+◌, ◌<◌, ◌≤◌, ◌^◌, ◌==◌, Bool, true, false, if◌then◌else◌}
+use Rattle.std.specs.Prelude.{List, [], ◌∷◌, length, Option, Some, None, slice_get}
 use Rattle.std.specs.Option.{option_or}
 use Rattle.std.specs.declared.cmp.Ordering.{Ordering}
 use Rattle.std.specs.declared.cmp.Ordering.TheVariants.{Less}
@@ -9,25 +10,34 @@ use Rattle.std.specs.Cmp.Lexicographic.{slice_cmp}
 use Rattle.ice_ids.specs.Text.{same_id12}
 use Rattle.ice_base.specs.Names.{same_name}
 use Rattle.object_store.specs.declared.keys.Key.{Key}
-use Rattle.object_store.specs.declared.keys.Key.TheVariants.{Snapshot, Manifest, Txn, Chunk, Branch, Tag, Tombstone, Lease}
+use Rattle.object_store.specs.declared.keys.Key.TheVariants.{Snapshot, Manifest, Txn, Chunk}
+use Rattle.object_store.specs.declared.keys.Key.TheVariants.{Branch, Tag, Tombstone, Lease}
 use Rattle.object_store.specs.declared.keys.Part.{Part}
-use Rattle.object_store.specs.declared.keys.Part.TheVariants.{Snapshots, Manifests, Txns, Chunks, Branches, Tags, Leases}
+use Rattle.object_store.specs.declared.keys.Part.TheVariants.{Snapshots, Manifests, Txns}
+use Rattle.object_store.specs.declared.keys.Part.TheVariants.{Chunks, Branches, Tags, Leases}
 use Rattle.object_store.specs.declared.events.Version.{Version}
 use Rattle.object_store.specs.declared.events.Op.{Op}
-use Rattle.object_store.specs.declared.events.Op.TheVariants.{Get, PutNew, PutOver, Remove, RemoveAt, List as ListPart}
+use Rattle.object_store.specs.declared.events.Op.TheVariants.{Get, PutNew, PutOver, Remove}
+use Rattle.object_store.specs.declared.events.Op.TheVariants.{RemoveAt, List as ListPart}
 use Rattle.object_store.specs.declared.events.Got.{Got}
 use Rattle.object_store.specs.declared.events.Got.TheVariants.{Found, Absent}
 use Rattle.object_store.specs.declared.events.New.{New}
 use Rattle.object_store.specs.declared.events.New.TheVariants.{Done as New_done, Present}
 use Rattle.object_store.specs.declared.events.Over.{Over}
-use Rattle.object_store.specs.declared.events.Over.TheVariants.{Done as Over_done, Moved as Over_moved}
+use Rattle.object_store.specs.declared.events.Over.TheVariants.{Done as Over_done}
+use Rattle.object_store.specs.declared.events.Over.TheVariants.{Moved as Over_moved}
 use Rattle.object_store.specs.declared.events.Gone.{Gone}
-use Rattle.object_store.specs.declared.events.Gone.TheVariants.{Done as Gone_done, Absent as Gone_absent}
+use Rattle.object_store.specs.declared.events.Gone.TheVariants.{Done as Gone_done}
+use Rattle.object_store.specs.declared.events.Gone.TheVariants.{Absent as Gone_absent}
 use Rattle.object_store.specs.declared.events.GoneAt.{GoneAt}
-use Rattle.object_store.specs.declared.events.GoneAt.TheVariants.{Done as Gone_at_done, Moved as Gone_at_moved}
+use Rattle.object_store.specs.declared.events.GoneAt.TheVariants.{Done as Gone_at_done}
+use Rattle.object_store.specs.declared.events.GoneAt.TheVariants.{Moved as Gone_at_moved}
 use Rattle.object_store.specs.declared.events.Entry.{Entry}
 use Rattle.object_store.specs.declared.events.Reply.{Reply}
-use Rattle.object_store.specs.declared.events.Reply.TheVariants.{Got as Is_got, New as Is_new, Over as Is_over, Gone as Is_gone, GoneAt as Is_gone_at, Listed as Is_listed, Failed}
+use Rattle.object_store.specs.declared.events.Reply.TheVariants.{Got as Is_got, New as Is_new}
+use Rattle.object_store.specs.declared.events.Reply.TheVariants.{Over as Is_over, Gone as Is_gone}
+use Rattle.object_store.specs.declared.events.Reply.TheVariants.{GoneAt as Is_gone_at}
+use Rattle.object_store.specs.declared.events.Reply.TheVariants.{Listed as Is_listed, Failed}
 use Rattle.object_store.specs.declared.events.Event.{Event}
 
 -- ---- keys
@@ -84,7 +94,8 @@ rank_of (Lease id) = 0
 
 -- the order of a listing
 abbrev pub listing_cmp : Key → Key → Ordering
-listing_cmp a b = ordering_then (slice_cmp nat_cmp (name_of a) (name_of b)) (nat_cmp (rank_of a) (rank_of b))
+listing_cmp a b =
+    ordering_then (slice_cmp nat_cmp (name_of a) (name_of b)) (nat_cmp (rank_of a) (rank_of b))
 
 -- ---- what a key has seen
 -- What stands at a key: the bytes, the position of the put that put them, and its time.
@@ -93,7 +104,8 @@ pub record Stored : Type 0 where
   pub version : ℕ
   pub created : ℕ
 
--- The bytes and the time of a key's first put, the bytes of its last one, removed since or not, and what stands there.
+-- The bytes and the time of a key's first put, the bytes of its last one, removed since
+-- or not, and what stands there.
 pub record Slot : Type 0 where
   pub first : Option (List ℕ)
   pub born : Option ℕ
@@ -133,9 +145,11 @@ where_old old (Some s) new slot = if s.version == old then new else slot
 abbrev pub leaves : ℕ → ℕ → Op → Slot → Slot
 leaves n time (Get key) slot = slot
 leaves n time (PutNew key bytes why) slot = where_free slot.stands (put_at n time bytes slot) slot
-leaves n time (PutOver key bytes old why) slot = where_old old.0 slot.stands (put_at n time bytes slot) slot
+leaves n time (PutOver key bytes old why) slot =
+    where_old old.0 slot.stands (put_at n time bytes slot) slot
 leaves n time (Remove key why) slot = record slot { stands = None }
-leaves n time (RemoveAt key old why) slot = where_old old.0 slot.stands (record slot { stands = None }) slot
+leaves n time (RemoveAt key old why) slot =
+    where_old old.0 slot.stands (record slot { stands = None }) slot
 leaves n time (ListPart part) slot = slot
 
 -- whether the operation took effect, also where its answer was lost
@@ -151,7 +165,9 @@ was_done (Is_listed l) = true
 -- what a key has after one event at position n
 unfoldable pub effect : Key → ℕ → Slot → Event → Slot
 effect key n slot event =
-    if is_on key event.op then (if was_done event.reply then leaves n event.time event.op slot else slot) else slot
+    if is_on key event.op
+    then (if was_done event.reply then leaves n event.time event.op slot else slot)
+    else slot
 
 -- what a key has after the events, the first of which has position n
 unfoldable pub through : Key → ℕ → Slot → List Event → Slot
@@ -190,7 +206,9 @@ new_of n now (Some s) = Present (version_at s.version) now
 
 abbrev pub over_of : ℕ → ℕ → ℕ → Option Stored → Over
 over_of n now old None = Over_moved None now
-over_of n now old (Some s) = if s.version == old then Over_done (version_at n) now else Over_moved (Some (version_at s.version)) now
+over_of n now old (Some s) =
+    if s.version == old then Over_done (version_at n) now
+    else Over_moved (Some (version_at s.version)) now
 
 abbrev pub gone_of : ℕ → Option Stored → Gone
 gone_of now None = Gone_absent now
@@ -198,7 +216,8 @@ gone_of now (Some s) = Gone_done now
 
 abbrev pub gone_at_of : ℕ → ℕ → Option Stored → GoneAt
 gone_at_of now old None = Gone_at_moved None now
-gone_at_of now old (Some s) = if s.version == old then Gone_at_done now else Gone_at_moved (Some (version_at s.version)) now
+gone_at_of now old (Some s) =
+    if s.version == old then Gone_at_done now else Gone_at_moved (Some (version_at s.version)) now
 
 -- what stands at the entry's key is as the entry says
 pub record IsEntry (at : Key → Option Stored) (part : Part) (entry : Entry) : Type 0 where
@@ -219,7 +238,8 @@ pub record HasEntry (entries : List Entry) (key : Key) : Type 0 where
 pub record IsListing (at : Key → Option Stored) (part : Part) (entries : List Entry) : Type 0 where
   pub right : (k : ℕ) (e : Entry) → slice_get entries k ≡ Some e → IsEntry at part e
   pub whole : (key : Key) (s : Stored) → part_of key ≡ part → at key ≡ Some s → HasEntry entries key
-  pub ascending : (j k : ℕ) (d e : Entry) → j < k → slice_get entries j ≡ Some d → slice_get entries k ≡ Some e → listing_cmp d.key e.key ≡ Less
+  pub ascending : (j k : ℕ) (d e : Entry) → j < k → slice_get entries j ≡ Some d
+      → slice_get entries k ≡ Some e → listing_cmp d.key e.key ≡ Less
 
 -- The reply is the machine's, to an operation at position n and this time, at what stands.
 abbrev pub IsHonest : (Key → Option Stored) → ℕ → ℕ → Op → Reply → Type 0
@@ -228,7 +248,9 @@ IsHonest at n now (PutNew key bytes why) reply = reply ≡ Is_new (new_of n now 
 IsHonest at n now (PutOver key bytes old why) reply = reply ≡ Is_over (over_of n now old.0 (at key))
 IsHonest at n now (Remove key why) reply = reply ≡ Is_gone (gone_of now (at key))
 IsHonest at n now (RemoveAt key old why) reply = reply ≡ Is_gone_at (gone_at_of now old.0 (at key))
-IsHonest at n now (ListPart part) reply = (entries : List Entry) × (reply ≡ Is_listed (record { entries = entries; now = now })) × IsListing at part entries
+IsHonest at n now (ListPart part) reply =
+    (entries : List Entry) × (reply ≡ Is_listed (record { entries = entries; now = now }))
+    × IsListing at part entries
 
 -- a failed operation has no answer to compare
 abbrev pub UnlessFailed : (Reply → Type 0) → Reply → Type 0
@@ -248,8 +270,10 @@ time_after time (e ∷ es) = time_after e.time es
 abbrev pub last_time : List Event → ℕ
 last_time journal = time_after 0 journal
 
--- The event is answered as the machine does after the journal, unless it failed, and its time isn't earlier.
+-- The event is answered as the machine does after the journal, unless it
+-- failed, and its time isn't earlier.
 pub record IsAnswered (journal : List Event) (event : Event) : Type 0 where
   pub later : last_time journal ≤ event.time
   pub fits : event.time < 2 ^ 64
-  pub answered : UnlessFailed (IsHonest (found journal) (length journal) event.time event.op) event.reply
+  pub answered : UnlessFailed (IsHonest (found journal) (length journal) event.time event.op)
+      event.reply

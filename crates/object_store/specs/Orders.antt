@@ -6,7 +6,8 @@ use Rattle.std.specs.declared.cmp.Ordering.{Ordering}
 use Rattle.std.specs.Ordering.{nat_cmp, ordering_then}
 use Rattle.object_store.specs.declared.keys.Key.{Key}
 use Rattle.object_store.specs.declared.keys.Part.{Part}
-use Rattle.object_store.specs.declared.keys.Part.TheVariants.{Snapshots, Manifests, Txns, Chunks, Branches, Tags, Leases}
+use Rattle.object_store.specs.declared.keys.Part.TheVariants.{Snapshots, Manifests, Txns}
+use Rattle.object_store.specs.declared.keys.Part.TheVariants.{Chunks, Branches, Tags, Leases}
 use Rattle.object_store.specs.Machine.{part_of, name_of, rank_of, listing_cmp}
 
 -- the place of a part among the parts
@@ -20,7 +21,8 @@ place_of Tags = 5
 place_of Leases = 6
 
 abbrev pub key_cmp : Key → Key → Ordering
-key_cmp a b = ordering_then (nat_cmp (place_of (part_of a)) (place_of (part_of b))) (listing_cmp a b)
+key_cmp a b =
+    ordering_then (nat_cmp (place_of (part_of a)) (place_of (part_of b))) (listing_cmp a b)
 
 pub key_total : IsTotalOrder key_cmp
 key_total =

@@ -8,7 +8,7 @@ use Rattle.ice_ids.specs.declared.drawing.Draw.{Draw}
 use Rattle.turn_cell.specs.declared.known.Known.{Known}
 use Rattle.turn_cell.specs.declared.known.Owners.{Owners}
 use Rattle.turn_cell.specs.Owners.{IsOwner, lower_part, upper_part, united}
-use Rattle.turn_cell.specs.Logs.{Follows, joined, longer}
+use Rattle.turn_cell.specs.SeenJournals.{Follows, joined, longer}
 use Rattle.turn_cell.proofs.Growth.{one_of}
 use Rattle.shared_store.specs.Told.{client_of}
 use Rattle.object_store.specs.declared.events.Event.{Event}

@@ -6,7 +6,7 @@ use Rattle.ice_base.proofs.Counts.{Rose-after}
 use Rattle.ice_ids.specs.declared.drawing.Draw.{Draw}
 use Rattle.turn_cell.specs.declared.known.Known.{Known}
 use Rattle.turn_cell.specs.Owners.{IsOwner, all_owners}
-use Rattle.turn_cell.specs.Logs.{starting}
+use Rattle.turn_cell.specs.SeenJournals.{starting}
 use Rattle.shared_store.specs.Told.{told}
 use Rattle.object_store.specs.declared.events.Event.{Event}
 use Rattle.store_api.specs.Journal.{Each}

@@ -9,13 +9,17 @@ use Rattle.play_outcome.specs.declared.outcome.Outcome.{Outcome}
 use Rattle.play_collect.specs.Playing.{collect_task}
 use Rattle.play_collect.specs.Telling.{CollectedTells}
 
--- Whatever others do, each operation of the task is polite, and one that its collection may make, removals in order; and the outcome tells the
--- journal, where the task began at `start`.
+-- Whatever others do, each operation of the task is polite, and one that its collection may make,
+-- removals in order; and the outcome tells the journal, where the task began at `start`.
 abbrev pub CollectTaskLaw : Type 0
 CollectTaskLaw = (by : Caller) (line cutoff : ℕ) (start : List Event)
-    → PlayKeeps (λ journal client op. IsPolite journal op × IsOwed cutoff start journal client op) by (collect_task line cutoff) start
+    → PlayKeeps (λ journal client op. IsPolite journal op × IsOwed cutoff start journal client op)
+    by (collect_task line cutoff) start
     × PlayLeads (CollectedTells line cutoff by.number start) by (collect_task line cutoff) start
 
 -- what an outcome tells stays so, whatever good events others make
 abbrev pub CollectOutcomeLaw : Type 0
-CollectOutcomeLaw = (by : Caller) (line cutoff : ℕ) (outcome : Outcome) (start journal more : List Event) → Each (IsOther by) journal more → CollectedTells line cutoff by.number start outcome journal → CollectedTells line cutoff by.number start outcome (journal ++ more)
+CollectOutcomeLaw =
+    (by : Caller) (line cutoff : ℕ) (outcome : Outcome) (start journal more : List Event)
+    → Each (IsOther by) journal more → CollectedTells line cutoff by.number start outcome journal
+    → CollectedTells line cutoff by.number start outcome (journal ++ more)

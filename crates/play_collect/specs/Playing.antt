@@ -9,7 +9,8 @@ use Rattle.play_outcome.specs.declared.outcome.End.{End}
 use Rattle.play_outcome.specs.declared.outcome.End.TheVariants as end
 use Rattle.play_outcome.specs.declared.outcome.Outcome.{Outcome}
 
--- how a task ends on this line of the script whose collection was told of such removals, and ended so
+-- how a task ends on this line of the script whose collection was told
+-- of such removals, and ended so
 abbrev pub end_by : (line : ℕ) → Removed → Result (Unit {0}) Refusal → End
 end_by line removed (Ok done) = end.Collected removed
 end_by line removed (Err why) = end.Stopped line why removed

@@ -52,7 +52,7 @@ use Rattle.region_cells.specs.Walks.{chunks_met}
 use Rattle.array_region.specs.Planning.{box_count, IsBoxOf}
 use Rattle.array_region.specs.Reading.{Kept, Chunk, Reads, keeping, entry_kept, in_file, got_kept, in_manifest, file_kept, listed_kept, entered_kept, chunk_kept, with_value, read_chunks, read_box, read_array, region_program}
 use Rattle.array_region.specs.Writing.{is_covered, old_chunk, bytes_put, write_chunks, outside_from, cells_refused, region_set_program}
-use Rattle.array_region.proofs.Planned.{IsAt, at_array, no_array, no_box, box_passes, box_of}
+use Rattle.array_region.proofs.Planned.{IsAt, at_array, no_array, refused_box, box_passes, box_of}
 use Rattle.region_calls.proofs.Gets.{place_gets, own_gets}
 use Rattle.region_calls.proofs.Chunks.{KeptIs}
 use Rattle.array_region.proofs.Looking.{taken}
@@ -65,7 +65,7 @@ use Rattle.play_course.specs.Refusing.{is_strange}
 use Rattle.play_course.proofs.Tidy.{Client}
 use Rattle.play_course.proofs.Meeting.{was-read, Meets, done-meets, ask-meets, then-meets, got-meets}
 use Rattle.play_course.proofs.Knowing.{IsKept, OfOthers, OfOwn, beside, kept-next, kept-others, good-others, missing-plain}
-use Rattle.play_course.proofs.Holding.{Held, held-others, IsOfBase, AreOfBase, own-of-base, manifest-stands}
+use Rattle.play_course.proofs.Holding.{KnowsSession, knows-others, IsOfBase, AreOfBase, own-of-base, manifest-stands}
 use Rattle.play_course.proofs.Reading.{ReadWell, held-got, grown, grown-got, place-meets, at-meets}
 use Rattle.play_course.proofs.Placing.{SetWell, set-meets}
 
@@ -94,7 +94,7 @@ stands-more kept journal more g once k puts x = k puts (extends-more (puts_of jo
 -- ---- chunks that are read
 module _ (client : Client) (ids : AnyIds) (s : SessionState) where
   record IsReading (kept : Kept) (journal : List Event) : Type 0 where
-    held : Held client ids s journal
+    held : KnowsSession client ids s journal
     stands : KeptStands kept journal
 
   -- the session is as it was, and what is kept stands, or the read is refused as it may be
@@ -104,7 +104,7 @@ module _ (client : Client) (ids : AnyIds) (s : SessionState) where
 
   reading-others : (kept : Kept) (journal more : List Event) → Each (OfOthers client ids) journal more → IsReading kept journal → IsReading kept (journal ++ more)
   reading-others kept journal more others r =
-      let held = held-others client ids s journal more others r.held in
+      let held = knows-others client ids s journal more others r.held in
       record { held = held; stands = stands-more kept journal more (good-others client ids journal more others) held.before.so_far.once r.stands }
 
   reading-got : (kept : Kept) (journal : List Event) (event : Event) (key : Key) → OfOwn client ids journal event → event.op ≡ Get key → IsReading kept journal → IsReading kept (journal ++ event ∷ [])
@@ -150,7 +150,7 @@ module _ (client : Client) (ids : AnyIds) (s : SessionState) where
       fresh-meets : (m : ManifestRef) (ms : List ManifestRef) → Continues ms → IsOfBase s.rows m → (kept : Kept) (journal : List Event) → IsReading kept journal → Left (first_of m) ms journal → Meets ChunkWell (beside client ids) (got_kept at.bytes at.node index m.id (rest ms)) journal
       fresh-meets m ms go of_base kept journal r left =
           ask-meets ChunkWell (beside client ids) (Get (Manifest m.id)) (λ reply. on_answer (in_file at.bytes at.node index m.id (rest ms)) (manifest_told m.id reply)) journal (λ more event others own is.
-          let mid = held-others client ids s journal more others r.held in
+          let mid = knows-others client ids s journal more others r.held in
           let after = held-got client ids s (journal ++ more) event (Manifest m.id) own is mid in
           let stands = manifest-stands client.collects s (journal ++ more) mid.before.so_far mid.opened m of_base in
           let new : List Event = (journal ++ more) ++ event ∷ [] in
@@ -198,7 +198,7 @@ module _ (client : Client) (ids : AnyIds) (s : SessionState) where
   -- ---- a box that is read
   -- the session is as it was, or the read is refused as it may be
   abbrev pub NumbersWell : Result (List ℤ) Refusal → List Event → Type 0
-  NumbersWell (Ok numbers) h = Held client ids s h
+  NumbersWell (Ok numbers) h = KnowsSession client ids s h
   NumbersWell (Err why) h = is_strange client.collects why ≡ false
 
   chunks-meets : (r : Reads) → AllThere r → (met : List (List ℕ)) → All (λ index. length index ≡ length r.array.chunks) met → (kept : Kept) (numbers : List ℤ) (journal : List Event) → IsReading kept journal → Meets NumbersWell (beside client ids) (read_chunks s r kept numbers met) journal
@@ -233,7 +233,7 @@ arrayless-plain : (collects : Bool) (s : SessionState) (path : List ℕ) (why : 
 arrayless-plain collects s path why e = let is = no_array (get (nodes_seen s) path) why e in subst (λ (w : Refusal). is_strange collects w ≡ false) (sym is.is) refl
 
 boxless-plain : (collects : Bool) (array : ArrayView) (from to : List ℕ) (why : Refusal) → box_count array from to ≡ Err why → is_strange collects why ≡ false
-boxless-plain collects array from to why c = let is = no_box array from to why c in subst (λ (w : Refusal). is_strange collects w ≡ false) (sym is.is) refl
+boxless-plain collects array from to why c = let is = refused_box array from to why c in subst (λ (w : Refusal). is_strange collects w ≡ false) (sym is.is) refl
 
 numbers-plain : (collects : Bool) (kind : IntKind) (count : ℕ) (numbers : List ℤ) (why : Refusal) → cells_refused kind count numbers ≡ Some why → is_strange collects why ≡ false
 numbers-plain collects kind count numbers why e = by_count (length numbers == count) e
@@ -249,7 +249,7 @@ numbers-plain collects kind count numbers why e = by_count (length numbers == co
 nothing-kept : (journal : List Event) → KeptStands None journal
 nothing-kept journal puts x = tt
 
-module _ (client : Client) (ids : AnyIds) (s : SessionState) (path from to : List ℕ) (journal : List Event) (h : Held client ids s journal) where
+module _ (client : Client) (ids : AnyIds) (s : SessionState) (path from to : List ℕ) (journal : List Event) (h : KnowsSession client ids s journal) where
   abbrev Numbers : Result (List ℤ) Refusal → List Event → Type 0
   Numbers = NumbersWell client ids s
 
@@ -268,7 +268,7 @@ module _ (client : Client) (ids : AnyIds) (s : SessionState) (path from to : Lis
   unfolding region_program
   gather = array-meets (array_at s path) refl
 
-pub gather-meets : (client : Client) (ids : AnyIds) (s : SessionState) (path from to : List ℕ) (journal : List Event) → Held client ids s journal → Meets (NumbersWell client ids s) (beside client ids) (region_program s path from to) journal
+pub gather-meets : (client : Client) (ids : AnyIds) (s : SessionState) (path from to : List ℕ) (journal : List Event) → KnowsSession client ids s journal → Meets (NumbersWell client ids s) (beside client ids) (region_program s path from to) journal
 gather-meets client ids s path from to journal h = gather client ids s path from to journal h
 
 -- ---- a box that is written
@@ -279,7 +279,7 @@ drawing_as s t = record s { ids = t.ids }
 module _ (client : Client) (ids : AnyIds) where
   -- a session is held, or the write is refused as it may be
   abbrev pub WriteWell : Result SessionState Refusal → List Event → Type 0
-  WriteWell (Ok t) h = Held client ids t h
+  WriteWell (Ok t) h = KnowsSession client ids t h
   WriteWell (Err why) h = is_strange client.collects why ≡ false
 
   -- what is known of a session stays so where the source draws on
@@ -298,8 +298,8 @@ module _ (client : Client) (ids : AnyIds) where
 
   module _ (s : SessionState) (r : Reads) (numbers : List ℤ) (there : AllThere client ids s r) where
     record IsWriting (t : SessionState) (kept : Kept) (journal : List Event) : Type 0 where
-      held : Held client ids t journal
-      first : Held client ids (drawing_as s t) journal
+      held : KnowsSession client ids t journal
+      first : KnowsSession client ids (drawing_as s t) journal
       stands : KeptStands kept journal
 
     there-as : (t : SessionState) → AllThere client ids (drawing_as s t) r
@@ -307,7 +307,7 @@ module _ (client : Client) (ids : AnyIds) where
 
     -- the chunk as it was
     abbrev OldWell : SessionState → Result Chunk Refusal → List Event → Type 0
-    OldWell t a h = Held client ids t h × ChunkWell client ids (drawing_as s t) a h
+    OldWell t a h = KnowsSession client ids t h × ChunkWell client ids (drawing_as s t) a h
 
     old-read : (t : SessionState) (index : List ℕ) → length index ≡ length r.array.chunks → (kept : Kept) (journal : List Event) → IsWriting t kept journal → (covered : Bool)
         → Meets (ChunkWell client ids (drawing_as s t)) (beside client ids) (cond covered (keeping kept Fill) (chunk_kept s r.path (chunk_length r.array) r.node index kept)) journal
@@ -316,7 +316,7 @@ module _ (client : Client) (ids : AnyIds) where
 
     old-meets : (t : SessionState) (index : List ℕ) → length index ≡ length r.array.chunks → (kept : Kept) (journal : List Event) → IsWriting t kept journal → Meets (OldWell t) (beside client ids) (old_chunk s r index kept) journal
     old-meets t index rank kept journal w =
-        gets-carry (Held client ids t) (ChunkWell client ids (drawing_as s t)) client ids (held-others client ids t) (λ j event key own is h. held-got client ids t j event key own is h) (old_chunk s r index kept) (old_gets s r index kept) journal w.held
+        gets-carry (KnowsSession client ids t) (ChunkWell client ids (drawing_as s t)) client ids (knows-others client ids t) (λ j event key own is h. held-got client ids t j event key own is h) (old_chunk s r index kept) (old_gets s r index kept) journal w.held
         (old-read t index rank kept journal w (is_covered r.from r.to r.array.chunks index))
 
     -- what is known through a set
@@ -335,7 +335,7 @@ module _ (client : Client) (ids : AnyIds) where
         (kept-next client journal event own.tidy own.after a.0, (IsOpened-append s journal (event ∷ []) good a.1.0, stands-more kept journal (event ∷ []) good own.after.once a.1.1))
 
     -- a chunk was set
-    writing-on : (t u : SessionState) (kept : Kept) (before journal : List Event) → IsWriting t kept before → Along kept journal → Held client ids u journal → SetsChunk t u → IsWriting u kept journal
+    writing-on : (t u : SessionState) (kept : Kept) (before journal : List Event) → IsWriting t kept before → Along kept journal → KnowsSession client ids u journal → SetsChunk t u → IsWriting u kept journal
     writing-on t u kept before journal w a held sets = record {
       held = held;
       first = record {
@@ -367,7 +367,7 @@ module _ (client : Client) (ids : AnyIds) where
         (λ chunk h q. set-on met index (λ u k j x. write-meets met (All-tail (λ index. length index ≡ length r.array.chunks) index met ranked) u k j x) t chunk h (record { held = q.0; first = q.1.held; stands = q.1.stands })) (λ why h q. q.1)
 
 -- a write of a box is never refused so
-pub put-box-meets : (client : Client) (ids : AnyIds) (s : SessionState) (path from to : List ℕ) (numbers : List ℤ) (journal : List Event) → Held client ids s journal → Meets (WriteWell client ids) (beside client ids) (region_set_program s path from to numbers) journal
+pub put-box-meets : (client : Client) (ids : AnyIds) (s : SessionState) (path from to : List ℕ) (numbers : List ℤ) (journal : List Event) → KnowsSession client ids s journal → Meets (WriteWell client ids) (beside client ids) (region_set_program s path from to numbers) journal
 put-box-meets client ids s path from to numbers journal h =
     box_cases s path from to numbers (λ p. Meets (WriteWell client ids) (beside client ids) p journal) (λ w. done-meets (WriteWell client ids) (beside client ids) (Err R.ReadOnly) journal refl)
     (λ why e. done-meets (WriteWell client ids) (beside client ids) (Err why) journal (arrayless-plain client.collects s path why e))
@@ -376,5 +376,5 @@ put-box-meets client ids s path from to numbers journal h =
     (λ w id array e count c f. write-meets client ids s (reads_of_box path from to id array) numbers (all-there s path from to id array e client ids) (chunks_met array.chunks from to) (met_ranked array.chunks from to (box s path from to id array e count c).gridded) s None journal
     (record { held = h; first = first; stands = nothing-kept journal }))
   where
-    first : Held client ids (drawing_as s s) journal
+    first : KnowsSession client ids (drawing_as s s) journal
     first = record { before = h.before; known = h.known; goes = goes-drawn client ids s s.ids (later-same s.ids) h.goes.later h.goes; own = h.own; opened = other-opened s s.ids journal h.opened }

@@ -40,7 +40,7 @@ use Rattle.refs_admin.specs.declared.log.LogLine.{LogLine}
 use Rattle.refs_admin.specs.Targets.{no_snapshot, target_told, target_program}
 use Rattle.refs_admin.specs.Branches.{created, put_branch, create_program, branch_new_program, moved, put_over, move_program, reset_program, branch_reset_program, dropped, removal, branch_drop_program}
 use Rattle.refs_admin.specs.Tags.{taken, after_tag, put_tag, tag_target_program, tag_new_program, buried, put_tombstone, tag_drop_program}
-use Rattle.refs_admin.specs.Logs.{told_lines, refused_now, refused_first, chain_at, log_program, line_of}
+use Rattle.refs_admin.specs.LogReading.{told_lines, refused_now, refused_first, chain_at, chain_log_program, line_of}
 use Rattle.script_calls.specs.declared.calls.Call.{Call}
 use Rattle.script_calls.specs.declared.calls.Call.TheVariants as calls
 use Rattle.script_calls.specs.declared.calls.RefCall.{RefCall}
@@ -304,7 +304,7 @@ module _ (client : Client) (ids : AnyIds) where
   chain-meets (At.Tag name) named journal t n = walk-meets most_snapshots [] named.id journal t (n.put tt)
   chain-meets (At.Snapshot own) named journal t n = first-meets most_snapshots named.id journal t
 
-  log-meets : (at : At) (journal : List Event) → Kept journal → Meets Knows (beside client ids) (log_program at) journal
+  log-meets : (at : At) (journal : List Event) → Kept journal → Meets Knows (beside client ids) (chain_log_program at) journal
   log-meets at journal t =
       then-meets (Named_well at) Knows (beside client ids) (resolve_at_program at) _ journal (naming at journal t)
       (λ named h q.
@@ -339,7 +339,7 @@ module _ (client : Client) (ids : AnyIds) where
   ref-meets line (ref.Untag name) next journal t go =
       call-meets Ends (beside client ids) Knows (tag_drop_program name) (λ answer. next (unseen answer)) journal (untag-meets name journal t) (follows-unseen next go) (λ h. go (Err R.NoMemory) h refl)
   ref-meets line (ref.Log at) next journal t go =
-      call-meets Ends (beside client ids) Knows (log_program at) (λ answer. next (logged line answer)) journal (log-meets at journal t) (follows-logged line next go) (λ h. go (Err R.NoMemory) h refl)
+      call-meets Ends (beside client ids) Knows (chain_log_program at) (λ answer. next (logged line answer)) journal (log-meets at journal t) (follows-logged line next go) (λ h. go (Err R.NoMemory) h refl)
 
   refused-meets : (line : ℕ) (shown : List Shown) (w : Refusal) (journal : List Event) → is_strange client.collects w ≡ false → PlayMeets Ends (beside client ids) (refused line shown w) journal
   refused-meets line shown w journal p = ended-meets Ends (beside client ids) (record { shown = shown; end = E.Refused line w }) journal p

@@ -5,7 +5,7 @@ use Rattle.ice_ids.specs.declared.Id12.{Id12}
 use Rattle.ice_ids.specs.declared.drawing.AnyIds.{AnyIds}
 use Rattle.ice_ids.specs.Drawing.{drawn12, after12}
 use Rattle.flat_tables.specs.declared.header.Kind.TheVariants as kinds
-use Rattle.zarr_tree.specs.Held.{Entry, touched}
+use Rattle.zarr_tree.specs.Held.{HeldEntry, touched}
 use Rattle.zarr_tree.specs.Touched.{is_untouched}
 use Rattle.zarr_changes.specs.declared.chunks.ChangedArray.{ChangedArray}
 use Rattle.zarr_changes.specs.Sets.{chunks_of, changed_arrays}
@@ -123,7 +123,7 @@ module _ (client : Client) (ids : AnyIds) (s : SessionState) where
   write-meets w a None journal k = done-meets WritesWell (beside client ids) (Ok (with_list w a None)) journal (record { before = k.before; known = k.known; opened = k.opened })
   write-meets w a (Some array) journal k = many-meets w a array (nat_lt refs_limit (length array.refs)) journal k
 
-  arrays-meets : (entries : List (Entry Place)) (arrays : List ChangedArray) (w : Written) (journal : List Event) → Writes w.ids journal → Meets WritesWell (beside client ids) (arrays_program s.rows entries arrays w) journal
+  arrays-meets : (entries : List (HeldEntry Place)) (arrays : List ChangedArray) (w : Written) (journal : List Event) → Writes w.ids journal → Meets WritesWell (beside client ids) (arrays_program s.rows entries arrays w) journal
   unfolding arrays_program
   arrays-meets entries [] w journal k = done-meets WritesWell (beside client ids) (Ok w) journal k
   arrays-meets entries (a ∷ more) w journal k =

@@ -26,7 +26,7 @@ use Rattle.store_api.specs.Program.{Done}
 use Rattle.object_store.proofs.Journals.{Each-append, Each-one, Each-both}
 use Rattle.play_outcome.specs.declared.outcome.RefLine.{RefLine}
 use Rattle.refs_admin.specs.Branches.{created}
-use Rattle.refs_admin.specs.Beginning.{init_program, put_main, placed}
+use Rattle.refs_admin.specs.NewRepository.{init_program, put_main, placed}
 use Rattle.repository.specs.Beginning.{begin_program, begun}
 use Rattle.repository.specs.Refs.{list_part, on_listed, read_ref, on_got, on_id, read_each, read_tags, read_branches, refs_program, with_line, live, is_gone}
 use Rattle.run_histories.proofs.Programs.{IsPlain}

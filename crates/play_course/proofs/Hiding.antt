@@ -1,5 +1,5 @@
 -- No task of a run over an empty store ends by a log that hides a node: what its outcome tells of the journal says so.
-use Rattle.std.proofs.Common.{◌≡◌, ◌⊎◌, inl, inr, ℕ, Bool, true, false, cond, List, [], ◌∷◌, ◌++◌, refl, sym, ◌∙◌, ap, subst, append_assoc}
+use Rattle.std.proofs.Common.{◌≡◌, inl, inr, ℕ, Bool, true, false, cond, List, [], ◌∷◌, ◌++◌, refl, sym, ◌∙◌, ap, subst, append_assoc}
 use Rattle.std.specs.Prelude.{Option, Some, None, Result, Ok, Err}
 use Rattle.std.specs.FinMap.{get}
 use Rattle.ice_ids.specs.declared.Id8.{Id8}
@@ -18,12 +18,16 @@ use Rattle.repo_objects.specs.declared.bad_objects.Bad.TheVariants.{Unlisted, Wr
 use Rattle.repo_objects.specs.Readings.{◌>>=◌, in_file, under, read_log}
 use Rattle.conflicts.specs.declared.solving.Policy.{Policy}
 use Rattle.object_store.specs.declared.keys.Key.{Key}
-use Rattle.object_store.specs.declared.keys.Key.TheVariants.{Txn}
+use Rattle.object_store.specs.declared.keys.Key.TheVariants.{Snapshot, Txn}
+use Rattle.object_store.specs.declared.keys.Why.{Why}
+use Rattle.object_store.specs.declared.events.Op.{Op}
+use Rattle.object_store.specs.declared.events.Op.TheVariants.{PutNew}
 use Rattle.object_store.specs.declared.events.Event.{Event}
 use Rattle.object_store.proofs.Journals.{Each-append, Each-back, Each-weaker}
 use Rattle.store_api.specs.declared.machines.Refusal.{Refusal}
 use Rattle.store_api.specs.declared.machines.Refusal.TheVariants as R
 use Rattle.store_api.specs.Journal.{Each, IsGood, IsGoodJournal}
+use Rattle.store_api.specs.Telling.{IsGet}
 use Rattle.repo_read.specs.declared.resolving.At.{At}
 use Rattle.repo_read.specs.Naming as named
 use Rattle.session.specs.Sessions.{SessionState, nodes_seen}
@@ -33,7 +37,7 @@ use Rattle.commit_path.specs.Opened.{RefusalTells}
 use Rattle.commit_path.specs.Single.{HasPutAlike, PutsAlike}
 use Rattle.commit_path.proofs.Knowing.{IsOpened-append}
 use Rattle.rebase.specs.Telling.{RebaseSays, WasHidden}
-use Rattle.rebase.proofs.Kept.{met-append}
+use Rattle.rebase.proofs.Kept.{hidden-append}
 use Rattle.leases.specs.declared.witness.Witness.{Witness}
 use Rattle.leases.specs.Plays.{witness_of, lease_with}
 use Rattle.leases.specs.Starting.{lease_of}
@@ -54,7 +58,7 @@ use Rattle.play_outcome.specs.declared.outcome.Shown.{Shown}
 use Rattle.play_outcome.specs.declared.outcome.End.{End}
 use Rattle.play_outcome.specs.declared.outcome.End.TheVariants as E
 use Rattle.play_outcome.specs.declared.outcome.Outcome.{Outcome}
-use Rattle.play_tasks.specs.Lines.{Deed, Goes, Sets, Reads, Puts, Gathers, Leases, Commits, deed, edit_deed, read_deed, edited, read_by, silent, still, key_set_deed, key_get_deed}
+use Rattle.play_tasks.specs.Lines.{LineDeed, Goes, Sets, Reads, Puts, Gathers, Leases, Commits, deed, edit_deed, read_deed, edits_to, read_by, silent, still, key_set_deed, key_get_deed}
 use Rattle.play_tasks.specs.Playing.{asked_by, policy_of}
 use Rattle.play_tasks.specs.Solving.{PlaysAll}
 use Rattle.play_tasks.specs.Bases.{MadeAlone}
@@ -79,7 +83,7 @@ still-plain s (Ok shown) p why e = cc
 still-plain s (Err own) p why e = let same : own ≡ why = cc in subst (λ (w : Refusal). is_strange false w ≡ false) same (p own refl)
 
 -- no refusal of the line is strange
-abbrev DeedIsPlain : Deed → Type 0
+abbrev DeedIsPlain : LineDeed → Type 0
 DeedIsPlain (Goes r) = IsPlain r
 DeedIsPlain (Sets path index bytes) = Unit {0}
 DeedIsPlain (Reads path index show) = Unit {0}
@@ -103,7 +107,7 @@ edit-deed-plain (Put place numbers) s = tt
 edit-deed-plain (KeySet key bytes) s = key-set-plain bytes (key_of key) s
 edit-deed-plain (Set_call path index bytes) s = tt
 edit-deed-plain (Fill path index byte) s = tt
-edit-deed-plain edit s = silent-plain (edited edit s) (edited-plain edit s)
+edit-deed-plain edit s = silent-plain (edits_to edit s) (edited-plain edit s)
 
 read-deed-plain : (line : ℕ) (look : ReadCall) (s : SessionState) → DeedIsPlain (read_deed line look s)
 read-deed-plain line (List_call path) s = still-plain s (read_by line (List_call path) s) (read-plain line (List_call path) s)
@@ -140,31 +144,17 @@ abbrev pub NeverHides : AnyIds → Task → ℕ → (start journal : List Event)
 NeverHides ids task client start journal =
     (lost : SessionState) (since : List Event) (key : Key) (bad : Bad) (l : HasLost ids task client start lost since journal) → ¬ WasHidden client (policy_of l.was_played.access) lost key bad since journal
 
--- a log hid the node, whatever came behind
-hidden-append : (client : ℕ) (policy : Policy) (s : SessionState) (key : Key) (bad : Bad) (start journal more : List Event) → WasHidden client policy s key bad start journal → WasHidden client policy s key bad start (journal ++ more)
-hidden-append client policy s key bad start journal more w = record {
-  head = w.head;
-  version = w.version;
-  links = w.links;
-  later = w.later;
-  met = met-append client start journal more s w.head w.version w.links w.later w.met;
-  at = w.at;
-  before = w.before;
-  one = w.one;
-  last = w.last;
-  at_is = w.at_is;
-  node = w.node;
-  hides = w.hides;
-  key_is = w.key_is;
-  bad_is = w.bad_is;
-}
+-- neither a get nor a release puts anything
+puts-none : (op : Op) → IsGetOrRelease op → (key : Key) (bytes : List ℕ) (why : Why) → op ≡ PutNew key bytes why → ⊥
+puts-none op (inl get) key bytes why put = absurd (subst IsGet put get)
+puts-none op (inr r) key bytes why put = let both = sym put ∙ r.1 in absurd cc
 
 module _ (ids : AnyIds) (task : Task) (client : ℕ) (start ended more : List Event) (good : Each IsGood ended more) (each : Each (λ before event. event.client ≡ client → IsGetOrRelease event.op) ended more) where
   -- releases put no snapshot
   alike-more : (s : SessionState) → HasPutAlike client s start ended → HasPutAlike client s start (ended ++ more)
   alike-more s a =
       let released : Each (PutsAlike client s) ended more =
-      Each-weaker (λ before event. event.client ≡ client → IsGetOrRelease event.op) (PutsAlike client s) (λ before event alone mine id bytes why put. absurd (subst IsGetOrRelease put (alone mine))) ended more each in
+      Each-weaker (λ before event. event.client ≡ client → IsGetOrRelease event.op) (PutsAlike client s) (λ before event alone mine id bytes why put. absurd (puts-none event.op (alone mine) (Snapshot id) bytes why put)) ended more each in
       record {
         more = a.more ++ more;
         is = ap (λ (h : List Event). h ++ more) a.is ∙ append_assoc start a.more more;
@@ -198,7 +188,7 @@ module _ (ids : AnyIds) (task : Task) (client : ℕ) (start ended more : List Ev
 
   hides-before : NeverHides ids task client start (ended ++ more) → NeverHides ids task client start ended
   unfolding lost-more
-  hides-before never lost since key bad l hidden = never lost since key bad (lost-more lost since l) (hidden-append client (policy_of l.was_played.access) lost key bad since ended more hidden)
+  hides-before never lost since key bad l hidden = never lost since key bad (lost-more lost since l) (hidden-append client since ended more (policy_of l.was_played.access) lost key bad hidden)
 
 -- so it was before the releases
 pub earlier-hides : (ids : AnyIds) (task : Task) (client : ℕ) (start ended journal : List Event) → IsGoodJournal journal → MadeAlone IsGetOrRelease client ended journal → NeverHides ids task client start journal → NeverHides ids task client start ended
@@ -242,7 +232,7 @@ module _ (ids : AnyIds) (task : Task) (client : ℕ) (start journal : List Event
   lease-refused show s last why h (inl t) = lease-unhidden s why h t.0
   lease-refused show s last why h (inr t) = leased-unhidden t.id s.base t.witness (start ++ t.since) t.placed why h t.tells
 
-  not-refused : (d : Deed) (s : SessionState) (last : List Shown) (why : Refusal) → SaysHidden why → DeedIsPlain d → Refuses client d s start last why journal → ⊥
+  not-refused : (d : LineDeed) (s : SessionState) (last : List Shown) (why : Refusal) → SaysHidden why → DeedIsPlain d → Refuses client d s start last why journal → ⊥
   not-refused (Goes r) s last why h p t = not-strange why h (p why t.0)
   not-refused (Sets path index bytes) s last why h p t =
       let f = (subst (λ (w : Refusal). SetTells client s path index bytes start (Err w) journal) h.is t).0 in

@@ -61,7 +61,7 @@ last-stands collects journal key bytes object so_far last = record {
 -- ---- a session
 -- The client draws by its own source, and nothing stands under what it may draw; the changes are those of lines of its task, whose node ids
 -- are new to the base; and what the session knows of its base holds.
-pub record Held (client : Client) (ids : AnyIds) (s : SessionState) (journal : List Event) : Type 0 where
+pub record KnowsSession (client : Client) (ids : AnyIds) (s : SessionState) (journal : List Event) : Type 0 where
   pub before : Before client s.ids journal
   pub known : AreIts client s.ids
   pub goes : GoesOn ids s
@@ -75,8 +75,8 @@ pub record MayCommit (client : Client) (s : SessionState) (journal : List Event)
   pub known : AreIts client s.ids
   pub opened : IsOpened s journal
 
-pub held-may : (client : Client) (ids : AnyIds) (s : SessionState) (journal : List Event) → Held client ids s journal → MayCommit client s journal
-held-may client ids s journal h = record { before = h.before; known = h.known; opened = h.opened }
+pub knows-may : (client : Client) (ids : AnyIds) (s : SessionState) (journal : List Event) → KnowsSession client ids s journal → MayCommit client s journal
+knows-may client ids s journal h = record { before = h.before; known = h.known; opened = h.opened }
 
 module _ (client : Client) (ids : AnyIds) (s : SessionState) where
   pub may-others : (journal more : List Event) → Each (OfOthers client ids) journal more → MayCommit client s journal → MayCommit client s (journal ++ more)
@@ -100,8 +100,8 @@ base-of collects s journal so_far o =
     subst (HasTree (puts_of journal)) (some-same t.rows s.rows (sym t.is ∙ o.rows so_far.once)) t.has
 
 module _ (client : Client) (ids : AnyIds) (s : SessionState) where
-  pub held-others : (journal more : List Event) → Each (OfOthers client ids) journal more → Held client ids s journal → Held client ids s (journal ++ more)
-  held-others journal more others h = record {
+  pub knows-others : (journal more : List Event) → Each (OfOthers client ids) journal more → KnowsSession client ids s journal → KnowsSession client ids s (journal ++ more)
+  knows-others journal more others h = record {
     before = before-others client ids s.ids h.known journal more others h.before;
     known = h.known;
     goes = h.goes;
@@ -109,7 +109,7 @@ module _ (client : Client) (ids : AnyIds) (s : SessionState) where
     opened = IsOpened-append s journal more (good-others client ids journal more others) h.opened;
   }
 
-  module _ (journal : List Event) (h : Held client ids s journal) where
+  module _ (journal : List Event) (h : KnowsSession client ids s journal) where
     pub base-has : HasTree (puts_of journal) s.rows
     base-has = base-of client.collects s journal h.before.so_far h.opened
 
@@ -177,7 +177,7 @@ manifest-stands collects s journal so_far opened m o =
     let file = some_of (manifest_put (puts_of journal) m.id) ((base-of collects s journal so_far opened).readable.manifests o.path o.row m o.there o.named) in
     put-reads collects journal m.id file.0 so_far file.1
 
-module _ (client : Client) (ids : AnyIds) (s : SessionState) (journal : List Event) (h : Held client ids s journal) where
+module _ (client : Client) (ids : AnyIds) (s : SessionState) (journal : List Event) (h : KnowsSession client ids s journal) where
   -- ---- a chunk
   module _ (path index : List ℕ) (at : ChunkAt) (t : IsThere s path index at) where
     -- the bytes of the session's tree are a whole chunk

@@ -34,12 +34,12 @@ use Rattle.play_course.specs.Refusing.{is_strange}
 use Rattle.play_course.proofs.Tidy.{Client}
 use Rattle.play_course.proofs.Meeting.{Watch, PlayMeets, ended-meets, followed-meets}
 use Rattle.play_course.proofs.Knowing.{OfOwn, before-put}
-use Rattle.play_course.proofs.Holding.{Held}
+use Rattle.play_course.proofs.Holding.{KnowsSession}
 use Rattle.play_course.proofs.Checking.{meets-any}
 
 -- ---- the put
 -- the session has drawn the lease's id
-pub held-leased : (client : Client) (ids : AnyIds) (s : SessionState) (journal : List Event) (event : Event) (id : Id12) (bytes : List ℕ) → OfOwn client ids journal event → event.op ≡ PutNew (Lease_key id) bytes For_lease → drawn12 s.ids ≡ Some id → Held client ids s journal → Held client ids (after_draw s) (journal ++ event ∷ [])
+pub held-leased : (client : Client) (ids : AnyIds) (s : SessionState) (journal : List Event) (event : Event) (id : Id12) (bytes : List ℕ) → OfOwn client ids journal event → event.op ≡ PutNew (Lease_key id) bytes For_lease → drawn12 s.ids ≡ Some id → KnowsSession client ids s journal → KnowsSession client ids (after_draw s) (journal ++ event ∷ [])
 held-leased client ids s journal event id bytes own is drawn h =
     let after : List Event = journal ++ event ∷ [] in
     let opened = IsOpened-append s journal (event ∷ []) (Each-one IsGood journal event own.tidy.good) h.opened in

@@ -34,7 +34,7 @@ use Rattle.run_histories.specs.Runs.{RanAlone, PlayedAlone, IsBy, IsSound, IsRun
 use Rattle.run_histories.specs.Told.{HasHistories, RunLaw}
 use Rattle.play_course.specs.declared.course.Played.{Played}
 use Rattle.play_course.specs.Course.{Course, OnlyBegan, Plays}
-use Rattle.play_course.specs.Leaving.{TagEndsAt, TellsEnds, LeavesBranches}
+use Rattle.play_course.specs.Leaving.{TagEndsAt, TellsEnds, KeepsRefs}
 use Rattle.play_course.proofs.Playing.{at-once, own-zero, tells-on}
 
 -- ---- the parts of a run
@@ -170,14 +170,14 @@ course-told closing draw script old new opening outcomes refs c t changes stand 
     told-ends changes new.seen lines stand tags (ran-told refs (as_client 0 c.played) new closing played_tells last_all c.reads lines e)
 
 pub course-leaves : RunLaw → RefsLaw → (draw : Draw) (script : Script) (old new : View) (opening : Result (Unit {0}) Refusal) (outcomes : List Outcome) (refs : Result (List RefLine) Refusal) → All IsWellTask script.tasks
-    → Course draw script old new opening outcomes refs → IsTrue old.caller.tells → (before : ℕ → Changes) → IsSound old.seen before → IsNewRun draw script.tasks old.seen → LeavesBranches draw script.tasks before old.seen new.seen refs
+    → Course draw script old new opening outcomes refs → IsTrue old.caller.tells → (before : ℕ → Changes) → IsSound old.seen before → IsNewRun draw script.tasks old.seen → KeepsRefs draw script.tasks before old.seen new.seen refs
 unfolding course-run
 course-leaves run closing draw script old new opening outcomes refs wells c t before sound new_run =
     let h = run draw script.tasks before old.seen new.seen sound new_run (course-run draw script old new opening outcomes refs wells c t) in
     record { start = c.begun.seen; histories = h; told = course-told closing draw script old new opening outcomes refs c t h.changes h.stand h.tags_stand }
 
 pub played-leaves : RunLaw → RefsLaw → (draw : Draw) (script : Script) (old new : View) (result : Result Played AllocError) → IsWell script → IfOk result (λ played. Course draw script old new played.opening played.outcomes.items played.refs) → IsTrue old.caller.tells → (before : ℕ → Changes) → IsSound old.seen before → IsNewRun draw script.tasks old.seen
-    → IfOk result (λ played. LeavesBranches draw script.tasks before old.seen new.seen played.refs)
+    → IfOk result (λ played. KeepsRefs draw script.tasks before old.seen new.seen played.refs)
 played-leaves run closing draw script old new (Ok played) well c t before sound new_run = course-leaves run closing draw script old new played.opening played.outcomes.items played.refs well.tasks c t before sound new_run
 played-leaves run closing draw script old new (Err error) well c t before sound new_run = tt
 

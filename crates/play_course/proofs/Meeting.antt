@@ -18,8 +18,8 @@ use Rattle.store_api.specs.declared.machines.Refusal.TheVariants.{NoMemory}
 use Rattle.object_store.specs.Machine.{Stored, found, version_at, got_of, new_of, IsHonest, UnlessFailed}
 use Rattle.store_api.specs.Journal.{Each, IsGood}
 use Rattle.store_api.specs.Program.{Prog, Done, Ask, bind, Path, moves_branch, events_of}
-use Rattle.store_api.specs.Plays.{Play, Ended, Ask as Ask_play, Or, call, behind, Comes, ended_as}
-use Rattle.object_store.proofs.Journals.{Each-append, Each-none}
+use Rattle.store_api.specs.Plays.{Play, Ended, Ask as Ask_play, Or, call, behind, ended_as}
+use Rattle.object_store.proofs.Journals.{Each-none}
 use Rattle.store_api.specs.Running.{Program, ◌>>=◌, on_answer}
 use Rattle.leases.specs.Following.{followed}
 use Rattle.play_tasks.specs.Played.{StartsWith, PlaysTo}
@@ -94,13 +94,6 @@ PlayMeets Q watch (Ask_play op starved next) journal =
     PlayMeets Q watch starved journal × ((more : List Event) (event : Event) → Each watch.others journal more → watch.own (journal ++ more) event → event.op ≡ op → PlayMeets Q watch (next event.reply) ((journal ++ more) ++ event ∷ []))
 PlayMeets Q watch (Or p q) journal = PlayMeets Q watch p journal × PlayMeets Q watch q journal
 
--- where R follows from Q
-pub play-weaker : {A : Type 0} (Q R : A → Type 0) → ((a : A) → Q a → R a) → (watch : Watch) (p : Play A) (journal : List Event) → PlayMeets Q watch p journal → PlayMeets R watch p journal
-unfolding PlayMeets
-play-weaker Q R f watch (Ended a) journal m = f a m
-play-weaker Q R f watch (Ask_play op starved next) journal m = (play-weaker Q R f watch starved journal m.0, λ more event others own is. play-weaker Q R f watch (next event.reply) ((journal ++ more) ++ event ∷ []) (m.1 more event others own is))
-play-weaker Q R f watch (Or p q) journal m = (play-weaker Q R f watch p journal m.0, play-weaker Q R f watch q journal m.1)
-
 -- a play, and what follows its outcome
 pub followed-meets : {A B : Type 0} (Q : A → Type 0) (R : B → Type 0) (watch : Watch) (p : Play A) (f : A → Play B) (journal : List Event) → PlayMeets Q watch p journal → ((a : A) (h : List Event) → Q a → PlayMeets R watch (f a) h) → PlayMeets R watch (followed p f) journal
 unfolding PlayMeets
@@ -131,32 +124,9 @@ module _ {A : Type 0} (Q : A → Type 0) (watch : Watch) where
   unfolding PlayMeets
   play-asks op starved next journal m f = (m, f)
 
-  pub meets-ended : (a : A) (journal : List Event) → PlayMeets Q watch (Ended a) journal → Q a
-  unfolding PlayMeets
-  meets-ended a journal m = m
-
   pub or-meets : (p q : Play A) (journal : List Event) → PlayMeets Q watch p journal → PlayMeets Q watch q journal → PlayMeets Q watch (Or p q) journal
   unfolding PlayMeets
   or-meets p q journal m n = (m, n)
-
-  pub meets-comes : (p q : Play A) (journal : List Event) → Comes p q → PlayMeets Q watch p journal → PlayMeets Q watch q journal
-  unfolding PlayMeets
-  meets-comes (Ended a) q journal c m = subst (λ (x : Play A). PlayMeets Q watch x journal) (sym c) m
-  meets-comes (Ask_play op s f) q journal c m = subst (λ (x : Play A). PlayMeets Q watch x journal) (sym c) m
-  meets-comes (Or p r) q journal (inl c) m = meets-comes p q journal c m.0
-  meets-comes (Or p r) q journal (inr c) m = meets-comes r q journal c m.1
-
-  pub meets-others : (p : Play A) (old more : List Event) → Each watch.others old more → PlayMeets Q watch p old → PlayMeets Q watch p (old ++ more)
-  unfolding PlayMeets
-  meets-others (Ended a) old more others m = m
-  meets-others (Ask_play op s next) old more others m = (
-    meets-others s old more others m.0,
-    λ later event o any is.
-        let same : (old ++ more) ++ later ≡ old ++ (more ++ later) = append_assoc old more later in
-        subst (λ (h : List Event). PlayMeets Q watch (next event.reply) (h ++ event ∷ [])) (sym same)
-        (m.1 (more ++ later) event (Each-append watch.others old more later others o) (subst (λ (h : List Event). watch.own h event) same any) is),
-  )
-  meets-others (Or p q) old more others m = (meets-others p old more others m.0, meets-others q old more others m.1)
 
   -- ---- paths
   -- of the events of all, what is known of this client's own, and of those of others

@@ -37,7 +37,7 @@ use Rattle.play_course.specs.Refusing.{is_strange}
 use Rattle.play_course.proofs.Tidy.{Client, AreIts, stands-readable, put-stands}
 use Rattle.play_course.proofs.Meeting.{was-read, Meets, done-meets, ask-meets, then-meets, got-meets}
 use Rattle.play_course.proofs.Knowing.{OfOthers, OfOwn, Before, beside, before-others, before-got, nodes-others, missing-plain}
-use Rattle.play_course.proofs.Holding.{Held}
+use Rattle.play_course.proofs.Holding.{KnowsSession}
 use Rattle.play_course.proofs.Naming.{Names, names-more, Resolves, resolve-meets}
 
 -- ---- the snapshot that was named
@@ -81,12 +81,12 @@ module _ (client : Client) (ids : AnyIds) where
 
     -- ---- the session
     abbrev pub Opens : Result SessionState Refusal → List Event → Type 0
-    Opens (Ok s) h = Held client ids s h
+    Opens (Ok s) h = KnowsSession client ids s h
     Opens (Err why) h = is_strange client.collects why ≡ false
 
     -- the session that begins at this snapshot, got in this journal
     begun-held : (named : Named) (journal : List Event) (event : Event) (st : Stored) (snap : SnapshotFile) → IsTip journal named.id (tip_in (origin_for a named)) → Begins journal → OfOwn client ids journal event → event.op ≡ Get (Snapshot named.id) → found journal (Snapshot named.id) ≡ Some st → snapshot_by named.id st.bytes ≡ Some snap
-        → Held client ids (begun a named snap) (journal ++ event ∷ [])
+        → KnowsSession client ids (begun a named snap) (journal ++ event ∷ [])
     begun-held named journal event st snap tip b own is at read =
         let s : SessionState = begun a named snap in
         let good = Each-one IsGood journal event own.tidy.good in

@@ -34,7 +34,7 @@ use Rattle.play_course.specs.Refusing.{is_strange}
 use Rattle.play_course.proofs.Tidy.{Client}
 use Rattle.play_course.proofs.Meeting.{Meets, done-meets, ask-meets, put-meets}
 use Rattle.play_course.proofs.Knowing.{Before, beside, before-put, drawn-now, plain-beside}
-use Rattle.play_course.proofs.Holding.{Held, held-others}
+use Rattle.play_course.proofs.Holding.{KnowsSession, knows-others}
 use Rattle.play_course.proofs.Reading.{edit-plain}
 
 -- ---- what a put leaves
@@ -58,11 +58,11 @@ last-was journal key bytes e = (sound journal key).begun bytes e
 module _ (client : Client) (ids : AnyIds) (s : SessionState) (path index bytes : List ℕ) where
   -- a session is held in which the chunk was set, or the set is refused as it may be
   abbrev pub SetWell : Result SessionState Refusal → List Event → Type 0
-  SetWell (Ok t) h = Held client ids t h × SetsChunk s t
+  SetWell (Ok t) h = KnowsSession client ids t h × SetsChunk s t
   SetWell (Err why) h = is_strange client.collects why ≡ false
 
   -- what is held behind a set that the tree allows
-  held-set : (t : SessionState) (journal : List Event) (a : SetsChunk s t) (h : Held client ids s journal) (new : List Event) → Before client t.ids new → IsOpened t new → Held client ids t new
+  held-set : (t : SessionState) (journal : List Event) (a : SetsChunk s t) (h : KnowsSession client ids s journal) (new : List Event) → Before client t.ids new → IsOpened t new → KnowsSession client ids t new
   held-set t journal a h new before opened =
       let edits : Edits s t = inr (inr (inr (inl a))) in
       record {
@@ -73,7 +73,7 @@ module _ (client : Client) (ids : AnyIds) (s : SessionState) (path index bytes :
         opened = opened;
       }
 
-  short-meets : (journal : List Event) → Held client ids s journal → set_refusal (nodes_seen s) path index (length bytes) ≡ None → Meets SetWell (beside client ids) (Done (Ok (with_chunk s path index (Inline bytes)))) journal
+  short-meets : (journal : List Event) → KnowsSession client ids s journal → set_refusal (nodes_seen s) path index (length bytes) ≡ None → Meets SetWell (beside client ids) (Done (Ok (with_chunk s path index (Inline bytes)))) journal
   short-meets journal h fine =
       let a : SetsChunk s (with_chunk s path index (Inline bytes)) = record { path = path; index = index; place = Inline bytes; allowed = fine; ids = s.ids; ids_are = inl refl; is = refl } in
       done-meets SetWell (beside client ids) (Ok (with_chunk s path index (Inline bytes))) journal (
@@ -82,11 +82,11 @@ module _ (client : Client) (ids : AnyIds) (s : SessionState) (path index bytes :
         a,
       )
 
-  out-meets : (id : Id12) → IsOut s path index bytes id → (journal : List Event) → Held client ids s journal → Meets SetWell (beside client ids) (put_object s path index bytes (Some id)) journal
+  out-meets : (id : Id12) → IsOut s path index bytes id → (journal : List Event) → KnowsSession client ids s journal → Meets SetWell (beside client ids) (put_object s path index bytes (Some id)) journal
   out-meets id out journal h =
       let t : SessionState = session_out s path index bytes id in
       ask-meets SetWell (beside client ids) (PutNew (Chunk id) bytes Set) (after_object t id) journal (λ more event others own is.
-      let mid = held-others client ids s journal more others h in
+      let mid = knows-others client ids s journal more others h in
       let free = (mid.before.free id (drawn-now s.ids id out.drawn)).chunk in
       put-meets SetWell (beside client ids) (after_object t id) (journal ++ more) event own.tidy.good ((journal ++ more) ++ event ∷ []) (Chunk id) bytes Set is free
       (λ told.
@@ -108,7 +108,7 @@ module _ (client : Client) (ids : AnyIds) (s : SessionState) (path index bytes :
       (λ failed. done-meets SetWell (beside client ids) (Err R.StoreFault) ((journal ++ more) ++ event ∷ []) refl))
 
   -- a set is never refused so
-  pub set-meets : (journal : List Event) → Held client ids s journal → Meets SetWell (beside client ids) (set_program s path index bytes) journal
+  pub set-meets : (journal : List Event) → KnowsSession client ids s journal → Meets SetWell (beside client ids) (set_program s path index bytes) journal
   set-meets journal h =
       set-cases s path index bytes (λ (p : Program SessionState). Meets SetWell (beside client ids) p journal)
       (λ w. done-meets SetWell (beside client ids) (Err R.ReadOnly) journal refl)

@@ -38,7 +38,7 @@ use Rattle.session.specs.declared.chunks.Value.{Value}
 use Rattle.session.specs.declared.chunks.Value.TheVariants.{Bytes, Fill}
 use Rattle.session.specs.Sessions.{SessionState, nodes_seen, overlay}
 use Rattle.session.specs.Editing.{refusal_of_edit}
-use Rattle.session.specs.Chunks.{found as found_bytes, read_object, read_place, read_entry, read_listed, read_at, read_found, get_program}
+use Rattle.session.specs.Chunks.{found_bytes, read_object, read_place, read_entry, read_listed, read_at, read_found, get_program}
 use Rattle.commit_path.proofs.Knowing.{IsOpened-append}
 use Rattle.commit_path.proofs.Putting.{extends-same, extends-more, puts-kept}
 use Rattle.commit_path.proofs.Readable.{some_of}
@@ -47,7 +47,7 @@ use Rattle.play_course.specs.Refusing.{is_strange}
 use Rattle.play_course.proofs.Tidy.{Client}
 use Rattle.play_course.proofs.Meeting.{was-read, Meets, done-meets, ask-meets, got-meets}
 use Rattle.play_course.proofs.Knowing.{OfOthers, OfOwn, beside, before-got, good-others, missing-plain, plain-beside}
-use Rattle.play_course.proofs.Holding.{last-stands, Held, held-others, has-chunks, keeps-frozen, IsOfBase, AreOfBase, own-of-base, manifest-stands, is-whole, base-place}
+use Rattle.play_course.proofs.Holding.{last-stands, KnowsSession, knows-others, has-chunks, keeps-frozen, IsOfBase, AreOfBase, own-of-base, manifest-stands, is-whole, base-place}
 
 some-same : {A : Type 0} (a b : A) → Some a ≡ Some b → a ≡ b
 some-same a b e = cc
@@ -91,10 +91,10 @@ and-then f (Some a) b e = (a, refl, e)
 module _ (client : Client) (ids : AnyIds) (s : SessionState) where
   -- the session is as it was, or the read is refused as it may be
   abbrev pub ReadWell : Result Value Refusal → List Event → Type 0
-  ReadWell (Ok value) h = Held client ids s h
+  ReadWell (Ok value) h = KnowsSession client ids s h
   ReadWell (Err why) h = is_strange client.collects why ≡ false
 
-  pub held-got : (journal : List Event) (event : Event) (key : Key) → OfOwn client ids journal event → event.op ≡ Get key → Held client ids s journal → Held client ids s (journal ++ event ∷ [])
+  pub held-got : (journal : List Event) (event : Event) (key : Key) → OfOwn client ids journal event → event.op ≡ Get key → KnowsSession client ids s journal → KnowsSession client ids s (journal ++ event ∷ [])
   held-got journal event key own is h = record {
     before = before-got client ids s.ids h.known journal event key own is h.before;
     known = h.known;
@@ -103,8 +103,8 @@ module _ (client : Client) (ids : AnyIds) (s : SessionState) where
     opened = IsOpened-append s journal (event ∷ []) (Each-one IsGood journal event own.tidy.good) h.opened;
   }
 
-  pub grown : (journal more : List Event) → Each (OfOthers client ids) journal more → Held client ids s journal → Extends (puts_of journal) (puts_of (journal ++ more))
-  grown journal more others h = puts-kept journal more (good-others client ids journal more others) (held-others client ids s journal more others h).before.so_far.once
+  pub grown : (journal more : List Event) → Each (OfOthers client ids) journal more → KnowsSession client ids s journal → Extends (puts_of journal) (puts_of (journal ++ more))
+  grown journal more others h = puts-kept journal more (good-others client ids journal more others) (knows-others client ids s journal more others h).before.so_far.once
 
   pub grown-got : (journal : List Event) (event : Event) → OfOwn client ids journal event → Extends (puts_of journal) (puts_of (journal ++ event ∷ []))
   grown-got journal event own = puts-kept journal (event ∷ []) (Each-one IsGood journal event own.tidy.good) own.after.once
@@ -116,12 +116,12 @@ module _ (client : Client) (ids : AnyIds) (s : SessionState) where
 
   -- and it will be
   abbrev pub Stays : ℕ → Place → List Event → Type 0
-  Stays want place journal = (h : List Event) → Held client ids s h → Extends (puts_of journal) (puts_of h) → Has want place h
+  Stays want place journal = (h : List Event) → KnowsSession client ids s h → Extends (puts_of journal) (puts_of h) → Has want place h
 
-  object-meets : (want : ℕ) (id : Id12) (offset size : ℕ) (journal : List Event) → Held client ids s journal → Stays want (Object id offset size) journal → Meets ReadWell (beside client ids) (read_object want id offset size) journal
+  object-meets : (want : ℕ) (id : Id12) (offset size : ℕ) (journal : List Event) → KnowsSession client ids s journal → Stays want (Object id offset size) journal → Meets ReadWell (beside client ids) (read_object want id offset size) journal
   object-meets want id offset size journal h has =
       ask-meets ReadWell (beside client ids) (Get (Chunk id)) (λ reply. on_answer (λ bytes. Done (Ok (Bytes bytes))) (object_told want id offset size reply)) journal (λ more event others own is.
-      let mid = held-others client ids s journal more others h in
+      let mid = knows-others client ids s journal more others h in
       let after = held-got (journal ++ more) event (Chunk id) own is mid in
       let b = has (journal ++ more) mid (grown journal more others h) in
       let object = and-then (part_of offset size) (last_put (journal ++ more) (Chunk id)) b.0 b.1 in
@@ -151,7 +151,7 @@ module _ (client : Client) (ids : AnyIds) (s : SessionState) where
           let chunk : (overlay (puts_of h) s).chunk path index ≡ Some b.0 = by-base s path index at t (puts_of h) none (keeps-frozen client ids s h k) ∙ ap (option_and_then (bytes_at (puts_of h))) looked ∙ b.1 in
           (b.0, b.1, is-whole client ids s h k path index at t b.0 chunk)
 
-      pub place-meets : (id : Id12) (place : Place) (journal : List Event) → Held client ids s journal → IsAt place journal → Meets ReadWell (beside client ids) (read_place at.bytes id place) journal
+      pub place-meets : (id : Id12) (place : Place) (journal : List Event) → KnowsSession client ids s journal → IsAt place journal → Meets ReadWell (beside client ids) (read_place at.bytes id place) journal
       place-meets id (Inline bytes) journal h is =
           let b = has-place (Inline bytes) journal is journal h (extends-same (puts_of journal)) in
           let same : bytes ≡ b.0 = some-same bytes b.0 b.1 in
@@ -167,18 +167,18 @@ module _ (client : Client) (ids : AnyIds) (s : SessionState) where
       rest ms = read_listed at.bytes at.node index (ids_within index ms)
 
       abbrev Continues : List ManifestRef → Type 0
-      Continues ms = (journal : List Event) → Held client ids s journal → Left (λ puts. None) ms journal → Meets ReadWell (beside client ids) (rest ms) journal
+      Continues ms = (journal : List Event) → KnowsSession client ids s journal → Left (λ puts. None) ms journal → Meets ReadWell (beside client ids) (rest ms) journal
 
-      entry-meets : (id : Id12) (ms : List ManifestRef) → Continues ms → (o : Option Place) (journal : List Event) → Held client ids s journal → Left (λ puts. o) ms journal → Meets ReadWell (beside client ids) (read_entry at.bytes id (rest ms) o) journal
+      entry-meets : (id : Id12) (ms : List ManifestRef) → Continues ms → (o : Option Place) (journal : List Event) → KnowsSession client ids s journal → Left (λ puts. o) ms journal → Meets ReadWell (beside client ids) (read_entry at.bytes id (rest ms) o) journal
       entry-meets id ms go None journal h left = go journal h left
       entry-meets id ms go (Some place) journal h left = place-meets id place journal h left
 
-      manifest-meets : (m : ManifestRef) (ms : List ManifestRef) → Continues ms → IsOfBase s.rows m → (journal : List Event) → Held client ids s journal → Left (λ puts. entry_of at.node index (or_empty m.id (manifest_put puts m.id))) ms journal
+      manifest-meets : (m : ManifestRef) (ms : List ManifestRef) → Continues ms → IsOfBase s.rows m → (journal : List Event) → KnowsSession client ids s journal → Left (λ puts. entry_of at.node index (or_empty m.id (manifest_put puts m.id))) ms journal
           → Meets ReadWell (beside client ids) (read_listed at.bytes at.node index (m.id ∷ ids_within index ms)) journal
       unfolding read_listed
       manifest-meets m ms go of_base journal h left =
           ask-meets ReadWell (beside client ids) (Get (Manifest m.id)) (λ reply. on_answer (λ file. read_entry at.bytes m.id (rest ms) (entry_of at.node index file)) (manifest_told m.id reply)) journal (λ more event others own is.
-          let mid = held-others client ids s journal more others h in
+          let mid = knows-others client ids s journal more others h in
           let after = held-got (journal ++ more) event (Manifest m.id) own is mid in
           let stands = manifest-stands client.collects s (journal ++ more) mid.before.so_far mid.opened m of_base in
           got-meets ReadWell (beside client ids) (λ reply. on_answer (λ file. read_entry at.bytes m.id (rest ms) (entry_of at.node index file)) (manifest_told m.id reply)) (journal ++ more) event own.tidy.good ((journal ++ more) ++ event ∷ []) (Manifest m.id) is
@@ -208,17 +208,17 @@ module _ (client : Client) (ids : AnyIds) (s : SessionState) where
         let b = has-chunks client ids s h k at.node index place e in
         (b.0, b.1, is-whole client ids s h k path index at t b.0 (by-entry s path index at t (puts_of h) (Some (Some place)) e ∙ b.1))
 
-    pub at-meets : (entry : Option (Option Place)) → entry_in s.held.chunks at.node index ≡ entry → (journal : List Event) → Held client ids s journal → Meets ReadWell (beside client ids) (read_at s path index at entry) journal
+    pub at-meets : (entry : Option (Option Place)) → entry_in s.held.chunks at.node index ≡ entry → (journal : List Event) → KnowsSession client ids s journal → Meets ReadWell (beside client ids) (read_at s path index at entry) journal
     at-meets (Some (Some (Inline bytes))) e journal h = done-meets ReadWell (beside client ids) (Ok (Bytes bytes)) journal h
     at-meets (Some (Some (Object id offset size))) e journal h = object-meets at.bytes id offset size journal h (entry-has (Object id offset size) e journal)
     at-meets (Some None) e journal h = done-meets ReadWell (beside client ids) (Ok Fill) journal h
     at-meets None e journal h = listed-meets e all (own-of-base s.rows path at.node) journal h (λ puts x. refl)
 
-  found-meets : (path index : List ℕ) (r : Result ChunkAt EditFault) → chunk_found (nodes_seen s) path index ≡ r → (journal : List Event) → Held client ids s journal → Meets ReadWell (beside client ids) (read_found s path index r) journal
+  found-meets : (path index : List ℕ) (r : Result ChunkAt EditFault) → chunk_found (nodes_seen s) path index ≡ r → (journal : List Event) → KnowsSession client ids s journal → Meets ReadWell (beside client ids) (read_found s path index r) journal
   found-meets path index (Err fault) e journal h = done-meets ReadWell (beside client ids) (Err (refusal_of_edit fault)) journal (plain-beside client.collects (refusal_of_edit fault) (edit-plain fault))
   found-meets path index (Ok at) e journal h = at-meets path index at (there s path index at e) (entry_in s.held.chunks at.node index) refl journal h
 
   -- a read is never refused so
-  pub get-meets : (path index : List ℕ) (journal : List Event) → Held client ids s journal → Meets ReadWell (beside client ids) (get_program s path index) journal
+  pub get-meets : (path index : List ℕ) (journal : List Event) → KnowsSession client ids s journal → Meets ReadWell (beside client ids) (get_program s path index) journal
   unfolding get_program
   get-meets path index journal h = found-meets path index (chunk_found (nodes_seen s) path index) refl journal h

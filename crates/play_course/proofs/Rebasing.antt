@@ -39,12 +39,12 @@ use Rattle.store_api.proofs.Telling.{Had}
 use Rattle.repo_read.specs.declared.answers.Resolved.{Resolved}
 use Rattle.repo_read.specs.Answers.{at_key, resolved_at, ref_told, snapshot_told, log_told}
 use Rattle.repo_read.specs.Chains.{most_snapshots}
-use Rattle.session.specs.Sessions.{SessionState, base_nodes, branch_of, moved_to, origin_at, writes}
+use Rattle.session.specs.Sessions.{SessionState, base_nodes, branch_of, rebased_to, origin_at, writes}
 use Rattle.commit_path.proofs.Entries.{filter-fewer}
 use Rattle.rebase.specs.declared.machine.Rebased.{Rebased}
 use Rattle.rebase.specs.declared.machine.Rebased.TheVariants.{OnHead, UpToDate}
 use Rattle.rebase.specs.Along.{Link, left_at, solved_at, first_hidden}
-use Rattle.rebase.specs.Rebasing.{Commits, head_of, walk_down, if_solved, solve_link, solve_program, on_head, over_commits, after_ref, rebase_program}
+use Rattle.rebase.specs.Rebasing.{CommitsSince, head_of, walk_down, if_solved, solve_link, solve_program, on_head, over_commits, after_ref, rebase_program}
 use Rattle.rebase.proofs.Walking.{IsHead, IsHead-append, got-head}
 use Rattle.rebase.proofs.Moving.{IsLess, HasNamed, HasNamed-append, same-opened, moved-opened}
 use Rattle.run_histories.specs.Runs.{HasCause}
@@ -129,7 +129,7 @@ top-read head [] next f h t k = subst (λ (id : Id12). IsHead id f h) t k
 top-read head (g ∷ gs) next f h t k = t
 
 -- what follows a snapshot
-abbrev behind : (base head : Id12) → (left : ℕ) → (above : List SnapshotFile) → SnapshotFile → Option Id12 → Program Commits
+abbrev behind : (base head : Id12) → (left : ℕ) → (above : List SnapshotFile) → SnapshotFile → Option Id12 → Program CommitsSince
 behind base head left above f parent = elim parent [
   | Some parent ↦ cond (same_id12 parent base) (Done (Ok (record { oldest = f; later = above }))) (walk_down base head left (f ∷ above) parent)
   | None ↦ Done (Err (R.NotAncestor head))
@@ -161,13 +161,13 @@ module _ (client : Client) (ids : AnyIds) (law : SnapshotLaw) (policy : Policy) 
     }
 
     -- the commits down to the base
-    record Chain (c : Commits) (journal : List Event) : Type 0 where
+    record Chain (c : CommitsSince) (journal : List Event) : Type 0 where
       may : MayCommit client s journal
       branch : HasNamed (branch_of s) named.version.0 named.id journal
       parents : AllParents journal (c.oldest ∷ c.later)
       top : IsHead named.id (head_of c.oldest c.later) journal
 
-    chain-more : (c : Commits) (journal more : List Event) → Each IsGood journal more → MayCommit client s (journal ++ more) → Chain c journal → Chain c (journal ++ more)
+    chain-more : (c : CommitsSince) (journal more : List Event) → Each IsGood journal more → MayCommit client s (journal ++ more) → Chain c journal → Chain c (journal ++ more)
     chain-more c journal more good may k = record {
       may = may;
       branch = HasNamed-append (branch_of s) named.version.0 named.id journal more good k.branch;
@@ -175,7 +175,7 @@ module _ (client : Client) (ids : AnyIds) (law : SnapshotLaw) (policy : Policy) 
       top = IsHead-append named.id (head_of c.oldest c.later) journal more good k.top;
     }
 
-    abbrev WalksWell : Result Commits Refusal → List Event → Type 0
+    abbrev WalksWell : Result CommitsSince Refusal → List Event → Type 0
     WalksWell (Ok c) h = Chain c h
     WalksWell (Err why) h = is_strange client.collects why ≡ false
 
@@ -235,7 +235,7 @@ module _ (client : Client) (ids : AnyIds) (law : SnapshotLaw) (policy : Policy) 
 
     -- ---- the logs
     -- what is held still is what was held, but for entries that were given up
-    abbrev SolvesWell : Commits → Result (Held Place) Refusal → List Event → Type 0
+    abbrev SolvesWell : CommitsSince → Result (Held Place) Refusal → List Event → Type 0
     SolvesWell c (Ok left) h = Chain c h × IsLess s.held left
     SolvesWell c (Err why) h = IsFine client.collects why
 
@@ -247,12 +247,12 @@ module _ (client : Client) (ids : AnyIds) (law : SnapshotLaw) (policy : Policy) 
           less.fewer node i x (ap (λ (h : Held Place). entry_in h.chunks node i) (sym less.is) ∙ filter-fewer (λ n j. not (lists_key _ n j)) held.chunks node i x e);
     }
 
-    if-meets : (c : Commits) (at : Id12) (left : List Conflict) (hidden : Option Id8) (p : Program (Held Place)) (h : List Event) → Meets (SolvesWell c) (beside client ids) p h → Meets (SolvesWell c) (beside client ids) (if_solved at left hidden p) h
+    if-meets : (c : CommitsSince) (at : Id12) (left : List Conflict) (hidden : Option Id8) (p : Program (Held Place)) (h : List Event) → Meets (SolvesWell c) (beside client ids) p h → Meets (SolvesWell c) (beside client ids) (if_solved at left hidden p) h
     if-meets c at (x ∷ xs) hidden p h m = done-meets (SolvesWell c) (beside client ids) (Err (R.Left at (x ∷ xs))) h (inl refl)
     if-meets c at [] (Some node) p h m = done-meets (SolvesWell c) (beside client ids) (Err (R.BadFile (Txn at) (Unlisted node))) h (inr (record { at = at; node = node; is = refl }))
     if-meets c at [] None p h m = m
 
-    solve-meets : (c : Commits) (fs : List SnapshotFile) (held : Held Place) (before : Nodes) (journal : List Event) → Chain c journal → AllParents journal fs → IsLess s.held held → Meets (SolvesWell c) (beside client ids) (solve_program policy held before fs) journal
+    solve-meets : (c : CommitsSince) (fs : List SnapshotFile) (held : Held Place) (before : Nodes) (journal : List Event) → Chain c journal → AllParents journal fs → IsLess s.held held → Meets (SolvesWell c) (beside client ids) (solve_program policy held before fs) journal
     unfolding solve_program
     solve-meets c [] held before journal k all less = done-meets (SolvesWell c) (beside client ids) (Ok held) journal (k, less)
     solve-meets c (f ∷ fs) held before journal k all less =
@@ -280,18 +280,18 @@ module _ (client : Client) (ids : AnyIds) (law : SnapshotLaw) (policy : Policy) 
   RebasesWell (Ok (UpToDate t)) h = MayCommit client t h
   RebasesWell (Err why) h = IsFine client.collects why
 
-  head-meets : (named : Resolved) (count : ℕ) (c : Commits) (held : Held Place) (h : List Event) → Chain named c h → IsLess s.held held → Meets RebasesWell (beside client ids) (on_head s named count (head_of c.oldest c.later) held) h
+  head-meets : (named : Resolved) (count : ℕ) (c : CommitsSince) (held : Held Place) (h : List Event) → Chain named c h → IsLess s.held held → Meets RebasesWell (beside client ids) (on_head s named count (head_of c.oldest c.later) held) h
   head-meets named count c held h k less = by_test (nat_lt most_nodes (len (nodes_over held (nodes_in (head_of c.oldest c.later).nodes))))
     where
-      by_test : (b : Bool) → Meets RebasesWell (beside client ids) (cond b (Done (Err (R.Edit E.Full))) (Done (Ok (OnHead (moved_to s named.id named.version.0 (head_of c.oldest c.later) held) count)))) h
+      by_test : (b : Bool) → Meets RebasesWell (beside client ids) (cond b (Done (Err (R.Edit E.Full))) (Done (Ok (OnHead (rebased_to s named.id named.version.0 (head_of c.oldest c.later) held) count)))) h
       by_test true = done-meets RebasesWell (beside client ids) (Err (R.Edit E.Full)) h (inl refl)
-      by_test false = done-meets RebasesWell (beside client ids) (Ok (OnHead (moved_to s named.id named.version.0 (head_of c.oldest c.later) held) count)) h (record {
+      by_test false = done-meets RebasesWell (beside client ids) (Ok (OnHead (rebased_to s named.id named.version.0 (head_of c.oldest c.later) held) count)) h (record {
         before = k.may.before;
         known = k.may.known;
         opened = moved-opened s named.id named.version.0 (head_of c.oldest c.later) held h k.branch k.top less k.may.opened;
       })
 
-  commits-meet : (named : Resolved) (c : Commits) (h : List Event) → Chain named c h → Meets RebasesWell (beside client ids) (over_commits policy s named c) h
+  commits-meet : (named : Resolved) (c : CommitsSince) (h : List Event) → Chain named c h → Meets RebasesWell (beside client ids) (over_commits policy s named c) h
   commits-meet named c h k =
       then-meets (SolvesWell named c) RebasesWell (beside client ids) (solve_program policy s.held (base_nodes s) (c.oldest ∷ c.later)) (on_head s named (length c.later + 1) (head_of c.oldest c.later)) h
       (solve-meets named c (c.oldest ∷ c.later) s.held (base_nodes s) h k k.parents (record { rows = s.held.chunks; is = refl; fewer = λ node i x e. e }))

@@ -1,31 +1,23 @@
 -- Behind the end of a session, the releases of its leases: the client makes these, and gets at most besides.
-use Rattle.std.proofs.Common.{◌≡◌, ◌∙◌, ℕ, List, [], ◌∷◌, ◌++◌, append_assoc, refl, ap, subst, sym}
+use Rattle.std.proofs.Common.{◌≡◌, inl, inr, ◌∙◌, ℕ, List, [], ◌∷◌, ◌++◌, append_assoc, refl, ap, subst, sym}
 use Rattle.std.specs.Prelude.{Result, Ok, Err}
 use Rattle.ice_ids.specs.declared.Id12.{Id12}
 use Rattle.object_store.specs.declared.events.Op.{Op}
-use Rattle.object_store.specs.declared.events.Op.TheVariants.{Get, PutNew, PutOver, Remove, RemoveAt, List as ListPart}
 use Rattle.object_store.specs.declared.events.Reply.{Reply}
 use Rattle.object_store.specs.declared.events.Reply.TheVariants.{Gone as Is_gone, Failed}
 use Rattle.object_store.specs.declared.events.Event.{Event}
 use Rattle.store_api.specs.declared.machines.Refusal.{Refusal}
 use Rattle.store_api.specs.declared.machines.Refusal.TheVariants as R
 use Rattle.store_api.specs.Journal.{Each}
-use Rattle.store_api.specs.Telling.{GetsAlone, IsGet, MadeGets, MadeOne}
+use Rattle.store_api.specs.Telling.{GetsAlone, MadeGets, MadeOne}
 use Rattle.object_store.proofs.Journals.{Each-append, Each-one, Each-weaker}
-use Rattle.leases.specs.Telling.{releases, ReleaseTells}
+use Rattle.leases.specs.Plays.{releases}
+use Rattle.leases.specs.Telling.{ReleaseTells}
 use Rattle.play_outcome.specs.declared.outcome.Shown.{Shown}
 use Rattle.play_outcome.specs.declared.outcome.Shown.TheVariants.{Node, Meta, Chunk, Fill, Cells, Key, Log, Lease}
 use Rattle.play_tasks.specs.Bases.{MadeAlone}
 use Rattle.play_tasks.specs.Played.{IsGetOrRelease}
 use Rattle.play_tasks.specs.Telling.{WereReleased}
-
-get-or : (op : Op) → IsGet op → IsGetOrRelease op
-get-or (Get key) g = tt
-get-or (PutNew key bytes why) g = g
-get-or (PutOver key bytes old why) g = g
-get-or (Remove key why) g = absurd g
-get-or (RemoveAt key old why) g = g
-get-or (ListPart part) g = g
 
 module _ (client : ℕ) where
   abbrev Made : List Event → List Event → Type 0
@@ -42,7 +34,7 @@ module _ (client : ℕ) where
   }
 
   gets-made : (first second : List Event) → MadeGets client first second → Made first second
-  gets-made first second g = record { more = g.more; is = g.is; each = Each-weaker (GetsAlone client) Own (λ before event alone mine. get-or event.op (alone mine)) first g.more g.each }
+  gets-made first second g = record { more = g.more; is = g.is; each = Each-weaker (GetsAlone client) Own (λ before event alone mine. inl (alone mine)) first g.more g.each }
 
   one-made : (op : Op) (reply : Reply) (first second : List Event) → IsGetOrRelease op → MadeOne client op reply first second → Made first second
   one-made op reply first second may m =
@@ -52,8 +44,8 @@ module _ (client : ℕ) where
       made-then first behind second (made-then first own.before behind (gets-made first own.before m.earlier) here) (gets-made behind second m.later)
 
   release-made : (id : Id12) (first : List Event) (result : Result (Unit {0}) Refusal) (second : List Event) → ReleaseTells client id first result second → Made first second
-  release-made id first (Ok done) second t = one-made (releases id) (Is_gone t.gone) first second refl t.made
-  release-made id first (Err R.StoreFault) second t = one-made t.op (Failed t.done) first second (subst IsGetOrRelease (sym t.of_kind) refl) t.made
+  release-made id first (Ok done) second t = one-made (releases id) (Is_gone t.gone) first second (inr (id, refl)) t.made
+  release-made id first (Err R.StoreFault) second t = one-made t.op (Failed t.done) first second (inr (id, t.of_kind)) t.made
   release-made id first (Err R.NoMemory) second t = gets-made first second t
   release-made id first (Err _) second t = absurd t
 

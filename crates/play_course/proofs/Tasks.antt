@@ -10,7 +10,7 @@ use Rattle.zarr_path.specs.declared.keys.ZarrKey.{ZarrKey}
 use Rattle.zarr_path.specs.declared.keys.ZarrKey.TheVariants as zarr
 use Rattle.zarr_path.specs.Keys.{key_of}
 use Rattle.zarr_meta.specs.declared.faults.MetaFault.{MetaFault}
-use Rattle.zarr_meta.specs.declared.views.View.{View}
+use Rattle.zarr_meta.specs.declared.views.MetaView.{MetaView}
 use Rattle.zarr_meta.specs.Meta.{meta_of}
 use Rattle.zarr_tree.specs.Nodes.{Node}
 use Rattle.zarr_tree.specs.declared.edit.EditFault.{EditFault}
@@ -48,7 +48,7 @@ use Rattle.std.proofs.lemmas.List.Elements.{All-head, All-tail}
 use Rattle.zarr_changes.specs.Sets.{add_refusal, text_refusal, drop_refusal, unset_refusal}
 use Rattle.session.specs.declared.chunks.Value.{Value}
 use Rattle.session.specs.Editing.{node_fault, added, entered, meta_set, node_dropped, if_writes, unless_bad, unless_refused, unless_unfit, refusal_of_edit, drawn_node, with_prop, prop_added, if_there, listed}
-use Rattle.session.specs.Chunks.{after_draw, set_program, get_program, chunk_unset, without_chunk}
+use Rattle.session.specs.Chunks.{after_draw, set_program, get_program, filled, chunk_unset, without_chunk}
 use Rattle.leases.specs.declared.lease.Leased.{Leased}
 use Rattle.leases.specs.declared.witness.Witness.{Witness}
 use Rattle.leases.specs.Plays.{witness_of, witness_key, confirmed, after_put, confirm_play, lease_play, lease_with}
@@ -71,7 +71,7 @@ use Rattle.script_calls.specs.declared.calls.EditCall.TheVariants.{Set as Set_ca
 use Rattle.script_calls.specs.declared.calls.ReadCall.TheVariants.{List as List_call, Get as Get_call, Chunk as Chunk_call, Cells, KeyGet}
 use Rattle.play_script.specs.Well.{IsWellPath, IsWellEdit, IsWellLine}
 use Rattle.zarr_keys.specs.Keys.{session_of, meta_value, put_over}
-use Rattle.play_tasks.specs.Lines.{deed, edit_deed, read_deed, edited, read_by, silent, still, nodes_shown, meta_shown, value_shown, cells_shown, key_shown, chunk_key_shown, key_set_deed, key_get_deed, filled, lease_shown, Goes}
+use Rattle.play_tasks.specs.Lines.{deed, edit_deed, read_deed, edits_to, read_by, silent, still, nodes_shown, meta_shown, value_shown, cells_shown, key_shown, chunk_key_shown, key_set_deed, key_get_deed, lease_shown, Goes}
 use Rattle.play_tasks.specs.Playing.{Rest, after_confirm, after_lease, lease_by, after_line, how_of, after_settling, doubt_of, doubt_play, after_commit, after_rebase, after_open, shown_by, commit_play, tries_of, policy_of, play_deed, play_lines, asked_by, session_play}
 use Rattle.play_tasks.proofs.Ways.{Way, adds, texts, drops, unsets, no_key, stays, put-way, edited-way}
 use Rattle.run_histories.specs.Sources.{NodesAreNew}
@@ -85,7 +85,7 @@ use Rattle.play_course.proofs.Meeting.{PlayMeets, ended-meets, or-meets, play-as
 use Rattle.settle.specs.Settling.{settle_program}
 use Rattle.play_course.proofs.Settling.{SettlesWell, kept-meets, settle-meets, how-plain}
 use Rattle.play_course.proofs.Knowing.{IsKept, Before, beside, before-later, drawn-now, plain-beside}
-use Rattle.play_course.proofs.Holding.{Held, MayCommit, held-may, held-others}
+use Rattle.play_course.proofs.Holding.{KnowsSession, MayCommit, knows-may, knows-others}
 use Rattle.play_course.proofs.Reading.{edit-plain, ReadWell, get-meets, held-got}
 use Rattle.play_course.proofs.Leasing.{Plain, confirmed-plain, held-leased}
 use Rattle.play_course.proofs.Opening.{Opens, open-meets}
@@ -122,7 +122,7 @@ without-id : (r : Result (Id8 × SessionState) Refusal) → IsPlain r → IsPlai
 without-id (Ok new) p why e = cc
 without-id (Err own) p why e = let same : own ≡ why = cc in subst (λ (w : Refusal). is_strange false w ≡ false) same (p own refl)
 
-added-plain : (fault : Result View MetaFault → Option MetaFault) (s : SessionState) (path text : List ℕ) → IsPlain (session_of (added fault s path text))
+added-plain : (fault : Result MetaView MetaFault → Option MetaFault) (s : SessionState) (path text : List ℕ) → IsPlain (session_of (added fault s path text))
 unfolding added
 added-plain fault s path text =
     without-id (if_writes (writes s) (unless_bad (fault (meta_of text)) (entered s path text)))
@@ -135,14 +135,14 @@ done-plain s why e = cc
 set-plain : (s : SessionState) (path text : List ℕ) → IsPlain (meta_set s path text)
 unfolding meta_set
 set-plain s path text =
-    let r : Result SessionState Refusal = unless_refused (text_refusal (nodes_seen s) path text) (Ok (session.with_text s path text)) in
-    writes-plain (writes s) (unless_bad (node_fault (meta_of text)) r) (text-plain (node_fault (meta_of text)) r (unless-plain (text_refusal (nodes_seen s) path text) (Ok (session.with_text s path text)) (done-plain (session.with_text s path text))))
+    let r : Result SessionState Refusal = unless_refused (text_refusal (nodes_seen s) path text) (Ok (session.text_changed s path text)) in
+    writes-plain (writes s) (unless_bad (node_fault (meta_of text)) r) (text-plain (node_fault (meta_of text)) r (unless-plain (text_refusal (nodes_seen s) path text) (Ok (session.text_changed s path text)) (done-plain (session.text_changed s path text))))
 
 drop-plain : (s : SessionState) (path : List ℕ) → IsPlain (node_dropped s path)
 unfolding node_dropped
 drop-plain s path =
-    let r : Result SessionState Refusal = unless_refused (drop_refusal (nodes_seen s) path) (Ok (session.without s path)) in
-    writes-plain (writes s) r (unless-plain (drop_refusal (nodes_seen s) path) (Ok (session.without s path)) (done-plain (session.without s path)))
+    let r : Result SessionState Refusal = unless_refused (drop_refusal (nodes_seen s) path) (Ok (session.node_gone s path)) in
+    writes-plain (writes s) r (unless-plain (drop_refusal (nodes_seen s) path) (Ok (session.node_gone s path)) (done-plain (session.node_gone s path)))
 
 unset-plain : (s : SessionState) (path index : List ℕ) → IsPlain (chunk_unset s path index)
 unfolding chunk_unset
@@ -172,7 +172,7 @@ way-plain Well s stays = done-plain s
 pub put-plain : (o : Option Node) (s : SessionState) (path text : List ℕ) → IsPlain (put_over o s path text)
 put-plain o s path text = way-plain (IsWellPath path) s (put-way s o path text)
 
-pub edited-plain : (edit : EditCall) (s : SessionState) → IsPlain (edited edit s)
+pub edited-plain : (edit : EditCall) (s : SessionState) → IsPlain (edits_to edit s)
 edited-plain edit s = way-plain (IsWellEdit edit) s (edited-way edit s)
 
 there-plain : {A B : Type 0} (o : Option A) (b : B) → IsPlain (if_there o b)
@@ -199,7 +199,7 @@ read-plain line (Get_call path) s = meta-plain line (option_map (λ (n : Node). 
 
 -- ---- a session behind an edit
 -- what a session knows stays so
-added-known : (fault : Result View MetaFault → Option MetaFault) (s t : SessionState) (path text : List ℕ) (journal : List Event) → TellsFaults fault → (r : Result (Id8 × SessionState) Refusal) → added fault s path text ≡ r → session_of r ≡ Ok t → IsOpened s journal → IsOpened t journal
+added-known : (fault : Result MetaView MetaFault → Option MetaFault) (s t : SessionState) (path text : List ℕ) (journal : List Event) → TellsFaults fault → (r : Result (Id8 × SessionState) Refusal) → added fault s path text ≡ r → session_of r ≡ Ok t → IsOpened s journal → IsOpened t journal
 added-known fault s t path text journal tells (Err why) e d o = absurd cc
 added-known fault s t path text journal tells (Ok new) e d o = let same : new.1 ≡ t = cc in subst (λ (x : SessionState). IsOpened x journal) same (added-opened s new.1 path text new.0 journal (node-added fault s new.1 path text new.0 tells e) o)
 
@@ -227,10 +227,10 @@ EndsFine collects (E.Checked line faults result) = strange_end collects (E.Check
 
 module _ (client : Client) (ids : AnyIds) where
   abbrev Knows : SessionState → List Event → Type 0
-  Knows s journal = Held client ids s journal
+  Knows s journal = KnowsSession client ids s journal
 
-  held-led : (s t : SessionState) (journal : List Event) → (t ≡ s) ⊎ Edits s t → AreIts client t.ids → IsOpened t journal → Held client ids s journal → Held client ids t journal
-  held-led s t journal (inl same) known opened h = subst (λ (x : SessionState). Held client ids x journal) (sym same) h
+  held-led : (s t : SessionState) (journal : List Event) → (t ≡ s) ⊎ Edits s t → AreIts client t.ids → IsOpened t journal → KnowsSession client ids s journal → KnowsSession client ids t journal
+  held-led s t journal (inl same) known opened h = subst (λ (x : SessionState). KnowsSession client ids x journal) (sym same) h
   held-led s t journal (inr edits) known opened h = record {
     before = before-later client s.ids t.ids journal (edit-later s t edits) h.before;
     known = known;
@@ -245,7 +245,7 @@ module _ (client : Client) (ids : AnyIds) where
 
   -- what follows a line, on a session of which this is known
   abbrev GoesOn : Rest → Type 0
-  GoesOn rest = (s : SessionState) (shown : List Shown) (journal : List Event) → Held client ids s journal → PlayMeets Ends (beside client ids) (rest s shown) journal
+  GoesOn rest = (s : SessionState) (shown : List Shown) (journal : List Event) → KnowsSession client ids s journal → PlayMeets Ends (beside client ids) (rest s shown) journal
 
   refused-fine : (line : ℕ) (shown : List Shown) (why : Refusal) (journal : List Event) → IsFine client.collects why → PlayMeets Ends (beside client ids) (refused line shown why) journal
   refused-fine line shown why journal p = ended-meets Ends (beside client ids) (record { shown = shown; end = E.Refused line why }) journal p
@@ -258,20 +258,20 @@ module _ (client : Client) (ids : AnyIds) where
   refused-plain line shown why journal p = refused-meets line shown why journal (plain-beside client.collects why p)
 
   -- an edit, by whichever way
-  way-meets : (line : ℕ) (shown : List Shown) (Well : Type 0) (s : SessionState) (rest : Rest) (journal : List Event) → Held client ids s journal → GoesOn rest → (expected : Result SessionState Refusal) → Way Well s expected → Leads (Goes (silent expected)) s → (r : Result SessionState Refusal) → expected ≡ r
+  way-meets : (line : ℕ) (shown : List Shown) (Well : Type 0) (s : SessionState) (rest : Rest) (journal : List Event) → KnowsSession client ids s journal → GoesOn rest → (expected : Result SessionState Refusal) → Way Well s expected → Leads (Goes (silent expected)) s → (r : Result SessionState Refusal) → expected ≡ r
       → PlayMeets Ends (beside client ids) (after_line line shown (silent r) rest) journal
   way-meets line shown Well s rest journal h go expected w leads (Ok t) e =
       go t (shown ++ []) journal (held-led s t journal (leads [] t (ap (λ (x : Result SessionState Refusal). silent x) e)) (way-draws client.draw client.number Well s t w h.known e) (way-known Well s t journal w e h.opened) h)
   way-meets line shown Well s rest journal h go expected w leads (Err why) e = refused-plain line shown why journal (way-plain Well s w why e)
 
   -- a property is added
-  prop-meets : (line : ℕ) (shown : List Shown) (name value : List ℕ) (s : SessionState) (rest : Rest) (journal : List Event) → Held client ids s journal → GoesOn rest → Leads (Goes (silent (prop_added s name value))) s → (r : Result SessionState Refusal) → prop_added s name value ≡ r
+  prop-meets : (line : ℕ) (shown : List Shown) (name value : List ℕ) (s : SessionState) (rest : Rest) (journal : List Event) → KnowsSession client ids s journal → GoesOn rest → Leads (Goes (silent (prop_added s name value))) s → (r : Result SessionState Refusal) → prop_added s name value ≡ r
       → PlayMeets Ends (beside client ids) (after_line line shown (silent r) rest) journal
   prop-meets line shown name value s rest journal h go leads (Ok t) e =
       go t (shown ++ []) journal (held-led s t journal (leads [] t (ap (λ (x : Result SessionState Refusal). silent x) e)) (prop-draws client.draw client.number s t name value h.known e) (prop-opened s t name value journal (prop-added s t name value e) h.opened) h)
   prop-meets line shown name value s rest journal h go leads (Err why) e = refused-plain line shown why journal (prop-plain s name value why e)
 
-  look-meets : (line : ℕ) (shown : List Shown) (s : SessionState) (rest : Rest) (journal : List Event) → Held client ids s journal → GoesOn rest → (r : Result (List Shown) Refusal) → IsPlain r → PlayMeets Ends (beside client ids) (after_line line shown (still s r) rest) journal
+  look-meets : (line : ℕ) (shown : List Shown) (s : SessionState) (rest : Rest) (journal : List Event) → KnowsSession client ids s journal → GoesOn rest → (r : Result (List Shown) Refusal) → IsPlain r → PlayMeets Ends (beside client ids) (after_line line shown (still s r) rest) journal
   look-meets line shown s rest journal h go (Ok more) p = go s _ journal h
   look-meets line shown s rest journal h go (Err why) p = refused-plain line shown why journal (p why refl)
 
@@ -292,25 +292,25 @@ module _ (client : Client) (ids : AnyIds) where
   gather-goes line shown s show rest go (Err why) journal p = refused-meets line shown why journal p
 
   -- ---- leases
-  confirm-goes : (line : ℕ) (shown : List Shown) (t : SessionState) (rest : Rest) → GoesOn rest → (r : Result (Unit {0}) Refusal) → Plain r → (journal : List Event) → Held client ids t journal → PlayMeets Ends (beside client ids) (after_confirm line shown t rest r) journal
+  confirm-goes : (line : ℕ) (shown : List Shown) (t : SessionState) (rest : Rest) → GoesOn rest → (r : Result (Unit {0}) Refusal) → Plain r → (journal : List Event) → KnowsSession client ids t journal → PlayMeets Ends (beside client ids) (after_confirm line shown t rest r) journal
   confirm-goes line shown t rest go (Ok done) p journal h = go t shown journal h
   confirm-goes line shown t rest go (Err why) p journal h = refused-plain line shown why journal p
 
   -- a lease that was put is to be confirmed
-  confirm-meets : (line : ℕ) (shown : List Shown) (t : SessionState) (rest : Rest) → GoesOn rest → (id : Id12) (w : Witness) (journal : List Event) → Held client ids t journal → PlayMeets Ends (beside client ids) (followed (confirm_play id w) (after_lease (lease_shown line) line shown t rest)) journal
+  confirm-meets : (line : ℕ) (shown : List Shown) (t : SessionState) (rest : Rest) → GoesOn rest → (id : Id12) (w : Witness) (journal : List Event) → KnowsSession client ids t journal → PlayMeets Ends (beside client ids) (followed (confirm_play id w) (after_lease (lease_shown line) line shown t rest)) journal
   confirm-meets line shown t rest go id w journal h =
       let all : List Shown = shown ++ lease_shown line id ∷ [] in
       play-asks Ends (beside client ids) (Get (witness_key w)) (refused line all R.NoMemory) (λ reply. after_confirm line all t rest (confirmed w reply)) journal (refused-meets line all R.NoMemory journal refl)
       (λ more event others own is.
-      confirm-goes line all t rest go (confirmed w event.reply) (confirmed-plain w event.reply) ((journal ++ more) ++ event ∷ []) (held-got client ids t (journal ++ more) event (witness_key w) own is (held-others client ids t journal more others h)))
+      confirm-goes line all t rest go (confirmed w event.reply) (confirmed-plain w event.reply) ((journal ++ more) ++ event ∷ []) (held-got client ids t (journal ++ more) event (witness_key w) own is (knows-others client ids t journal more others h)))
 
-  leasing-meets : (line : ℕ) (shown : List Shown) (s : SessionState) (rest : Rest) (journal : List Event) → Held client ids s journal → GoesOn rest → (w : Witness) (id : Id12) → drawn12 s.ids ≡ Some id
+  leasing-meets : (line : ℕ) (shown : List Shown) (s : SessionState) (rest : Rest) (journal : List Event) → KnowsSession client ids s journal → GoesOn rest → (w : Witness) (id : Id12) → drawn12 s.ids ≡ Some id
       → PlayMeets Ends (beside client ids) (followed (lease_play id s.base w) (after_lease (lease_shown line) line shown (after_draw s) rest)) journal
   leasing-meets line shown s rest journal h go w id drawn =
       let f : Leased → Play Outcome = after_lease (lease_shown line) line shown (after_draw s) rest in
       play-asks Ends (beside client ids) (PutNew (Lease_key id) (ref_bytes s.base) For_lease) (refused line (shown ++ []) R.NoMemory) (λ reply. followed (after_put id w reply) f) journal (refused-meets line (shown ++ []) R.NoMemory journal refl)
       (λ more event others own is.
-      let mid = held-others client ids s journal more others h in
+      let mid = knows-others client ids s journal more others h in
       let free = (mid.before.free id (drawn-now s.ids id drawn)).lease in
       let after : List Event = (journal ++ more) ++ event ∷ [] in
       let P : Reply → Type 0 = λ reply. PlayMeets Ends (beside client ids) (followed (after_put id w reply) f) after in
@@ -319,7 +319,7 @@ module _ (client : Client) (ids : AnyIds) where
         | inr failed ↦ subst P (sym failed.is) (refused-meets line (shown ++ lease_shown line id ∷ []) R.StoreFault after refl)
       ])
 
-  lease-meets : (line : ℕ) (shown : List Shown) (s : SessionState) (rest : Rest) (journal : List Event) → Held client ids s journal → GoesOn rest → PlayMeets Ends (beside client ids) (lease_by (lease_shown line) line shown s rest (lease_of s)) journal
+  lease-meets : (line : ℕ) (shown : List Shown) (s : SessionState) (rest : Rest) (journal : List Event) → KnowsSession client ids s journal → GoesOn rest → PlayMeets Ends (beside client ids) (lease_by (lease_shown line) line shown s rest (lease_of s)) journal
   lease-meets line shown s rest journal h go = by_parts (witness_of s.origin) (drawn12 s.ids) refl
     where
       by_parts : (w : Option Witness) (o : Option Id12) → drawn12 s.ids ≡ o → PlayMeets Ends (beside client ids) (lease_by (lease_shown line) line shown s rest (lease_with w o s.base)) journal
@@ -374,38 +374,38 @@ module _ (client : Client) (ids : AnyIds) where
         call-meets Ends (beside client ids) (RebasesWell client ids law policy left) (rebase_program policy left) (after_rebase line shown again) h (rebase-meets client ids law policy left h m)
         (λ r j q. rebased-meets line shown policy left again (λ t i n. tries-meet tries policy line shown message t i n) r j q) (λ j. refused-meets line shown R.NoMemory j refl))
 
-  sets-meets : (line : ℕ) (shown : List Shown) (s : SessionState) (path index bytes : List ℕ) (rest : Rest) (journal : List Event) → Held client ids s journal → GoesOn rest → PlayMeets Ends (beside client ids) (call (set_program s path index bytes) (λ answer. after_line line shown (silent answer) rest)) journal
+  sets-meets : (line : ℕ) (shown : List Shown) (s : SessionState) (path index bytes : List ℕ) (rest : Rest) (journal : List Event) → KnowsSession client ids s journal → GoesOn rest → PlayMeets Ends (beside client ids) (call (set_program s path index bytes) (λ answer. after_line line shown (silent answer) rest)) journal
   sets-meets line shown s path index bytes rest journal h go =
       call-meets Ends (beside client ids) (SetWell client ids s path index bytes) (set_program s path index bytes) (λ answer. after_line line shown (silent answer) rest) journal (set-meets client ids s path index bytes journal h)
       (λ r j w. set-goes line shown s path index bytes rest go r j w) (λ j. refused-meets line shown R.NoMemory j refl)
 
-  key-set-meets : (access : Access) (line : ℕ) (bytes : List ℕ) (o : Option ZarrKey) (shown : List Shown) (s : SessionState) (rest : Rest) (journal : List Event) → Held client ids s journal → GoesOn rest → Leads (key_set_deed bytes o s) s → PlayMeets Ends (beside client ids) (play_deed access line shown s (key_set_deed bytes o s) rest) journal
+  key-set-meets : (access : Access) (line : ℕ) (bytes : List ℕ) (o : Option ZarrKey) (shown : List Shown) (s : SessionState) (rest : Rest) (journal : List Event) → KnowsSession client ids s journal → GoesOn rest → Leads (key_set_deed bytes o s) s → PlayMeets Ends (beside client ids) (play_deed access line shown s (key_set_deed bytes o s) rest) journal
   key-set-meets access line bytes None shown s rest journal h go leads = refused-meets line shown R.BadKey journal refl
   key-set-meets access line bytes (Some (zarr.Meta path)) shown s rest journal h go leads =
       let r = put_over (get (nodes_seen s) path) s path bytes in
       way-meets line shown (IsWellPath path) s rest journal h go r (put-way s (get (nodes_seen s) path) path bytes) leads r refl
   key-set-meets access line bytes (Some (zarr.Chunk path index)) shown s rest journal h go leads = sets-meets line shown s path index bytes rest journal h go
 
-  edit-deed-meets : (access : Access) (line : ℕ) (edit : EditCall) (shown : List Shown) (s : SessionState) (rest : Rest) (journal : List Event) → Held client ids s journal → GoesOn rest → Leads (edit_deed edit s) s → PlayMeets Ends (beside client ids) (play_deed access line shown s (edit_deed edit s) rest) journal
+  edit-deed-meets : (access : Access) (line : ℕ) (edit : EditCall) (shown : List Shown) (s : SessionState) (rest : Rest) (journal : List Event) → KnowsSession client ids s journal → GoesOn rest → Leads (edit_deed edit s) s → PlayMeets Ends (beside client ids) (play_deed access line shown s (edit_deed edit s) rest) journal
   edit-deed-meets access line (KeySet key bytes) shown s rest journal h go leads = key-set-meets access line bytes (key_of key) shown s rest journal h go leads
   edit-deed-meets access line (Set_call path index bytes) shown s rest journal h go leads = sets-meets line shown s path index bytes rest journal h go
   edit-deed-meets access line (Put place numbers) shown s rest journal h go leads =
       call-meets Ends (beside client ids) (WriteWell client ids) (region_set_program s place.path place.from place.to numbers) (λ answer. after_line line shown (silent answer) rest) journal (put-box-meets client ids s place.path place.from place.to numbers journal h)
       (λ r j w. put-box-goes line shown rest go r j w) (λ j. refused-meets line shown R.NoMemory j refl)
   edit-deed-meets access line (Fill path index byte) shown s rest journal h go leads = sets-meets line shown s path index (filled s path byte) rest journal h go
-  edit-deed-meets access line edit shown s rest journal h go leads = way-meets line shown (IsWellEdit edit) s rest journal h go (edited edit s) (edited-way edit s) leads (edited edit s) refl
+  edit-deed-meets access line edit shown s rest journal h go leads = way-meets line shown (IsWellEdit edit) s rest journal h go (edits_to edit s) (edited-way edit s) leads (edits_to edit s) refl
 
-  reads-meets : (line : ℕ) (show : Value → Shown) (path index : List ℕ) (shown : List Shown) (s : SessionState) (rest : Rest) (journal : List Event) → Held client ids s journal → GoesOn rest → PlayMeets Ends (beside client ids) (call (get_program s path index) (λ answer. after_line line shown (shown_by s show answer) rest)) journal
+  reads-meets : (line : ℕ) (show : Value → Shown) (path index : List ℕ) (shown : List Shown) (s : SessionState) (rest : Rest) (journal : List Event) → KnowsSession client ids s journal → GoesOn rest → PlayMeets Ends (beside client ids) (call (get_program s path index) (λ answer. after_line line shown (shown_by s show answer) rest)) journal
   reads-meets line show path index shown s rest journal h go =
       call-meets Ends (beside client ids) (ReadWell client ids s) (get_program s path index) (λ answer. after_line line shown (shown_by s show answer) rest) journal (get-meets client ids s path index journal h)
       (λ r j w. get-goes line shown s show rest go r j w) (λ j. refused-meets line shown R.NoMemory j refl)
 
-  key-get-meets : (access : Access) (line : ℕ) (o : Option ZarrKey) (shown : List Shown) (s : SessionState) (rest : Rest) (journal : List Event) → Held client ids s journal → GoesOn rest → PlayMeets Ends (beside client ids) (play_deed access line shown s (key_get_deed line o s) rest) journal
+  key-get-meets : (access : Access) (line : ℕ) (o : Option ZarrKey) (shown : List Shown) (s : SessionState) (rest : Rest) (journal : List Event) → KnowsSession client ids s journal → GoesOn rest → PlayMeets Ends (beside client ids) (play_deed access line shown s (key_get_deed line o s) rest) journal
   key-get-meets access line None shown s rest journal h go = refused-meets line shown R.BadKey journal refl
   key-get-meets access line (Some (zarr.Meta path)) shown s rest journal h go = go s (shown ++ key_shown line (meta_value s path) ∷ []) journal h
   key-get-meets access line (Some (zarr.Chunk path index)) shown s rest journal h go = reads-meets line (chunk_key_shown line) path index shown s rest journal h go
 
-  read-deed-meets : (access : Access) (line : ℕ) (look : ReadCall) (shown : List Shown) (s : SessionState) (rest : Rest) (journal : List Event) → Held client ids s journal → GoesOn rest → PlayMeets Ends (beside client ids) (play_deed access line shown s (read_deed line look s) rest) journal
+  read-deed-meets : (access : Access) (line : ℕ) (look : ReadCall) (shown : List Shown) (s : SessionState) (rest : Rest) (journal : List Event) → KnowsSession client ids s journal → GoesOn rest → PlayMeets Ends (beside client ids) (play_deed access line shown s (read_deed line look s) rest) journal
   read-deed-meets access line (List_call path) shown s rest journal h go = look-meets line shown s rest journal h go (read_by line (List_call path) s) (read-plain line (List_call path) s)
   read-deed-meets access line (Get_call path) shown s rest journal h go = look-meets line shown s rest journal h go (read_by line (Get_call path) s) (read-plain line (Get_call path) s)
   read-deed-meets access line (Chunk_call path index) shown s rest journal h go = reads-meets line (value_shown line) path index shown s rest journal h go
@@ -414,15 +414,15 @@ module _ (client : Client) (ids : AnyIds) where
       (λ r j w. gather-goes line shown s (cells_shown line) rest go r j w) (λ j. refused-meets line shown R.NoMemory j refl)
   read-deed-meets access line (KeyGet key) shown s rest journal h go = key-get-meets access line (key_of key) shown s rest journal h go
 
-  deed-meets : (law : SnapshotLaw) (access : Access) (line : ℕ) (made : Call) (shown : List Shown) (s : SessionState) (rest : Rest) (journal : List Event) → Held client ids s journal → GoesOn rest → Leads (deed line made s) s → PlayMeets Ends (beside client ids) (play_deed access line shown s (deed line made s) rest) journal
+  deed-meets : (law : SnapshotLaw) (access : Access) (line : ℕ) (made : Call) (shown : List Shown) (s : SessionState) (rest : Rest) (journal : List Event) → KnowsSession client ids s journal → GoesOn rest → Leads (deed line made s) s → PlayMeets Ends (beside client ids) (play_deed access line shown s (deed line made s) rest) journal
   deed-meets law access line (Edit edit) shown s rest journal h go leads = edit-deed-meets access line edit shown s rest journal h go leads
   deed-meets law access line (Read look) shown s rest journal h go leads = read-deed-meets access line look shown s rest journal h go
   deed-meets law access line (Ref call) shown s rest journal h go leads = go s (shown ++ []) journal h
   deed-meets law access line (Prop name value) shown s rest journal h go leads = prop-meets line shown name value s rest journal h go leads (prop_added s name value) refl
   deed-meets law access line Lease shown s rest journal h go leads = lease-meets line shown s rest journal h go
-  deed-meets law access line (Commit message) shown s rest journal h go leads = tries-meet law (tries_of access) (policy_of access) line shown message s journal (held-may client ids s journal h)
+  deed-meets law access line (Commit message) shown s rest journal h go leads = tries-meet law (tries_of access) (policy_of access) line shown message s journal (knows-may client ids s journal h)
 
-  lines-meets : (law : SnapshotLaw) (access : Access) (lines : List Line) → All IsWellLine lines → (s : SessionState) (shown : List Shown) (journal : List Event) → Held client ids s journal → PlayMeets Ends (beside client ids) (play_lines access lines s shown) journal
+  lines-meets : (law : SnapshotLaw) (access : Access) (lines : List Line) → All IsWellLine lines → (s : SessionState) (shown : List Shown) (journal : List Event) → KnowsSession client ids s journal → PlayMeets Ends (beside client ids) (play_lines access lines s shown) journal
   unfolding play_lines
   lines-meets law access [] well s shown journal h = ended-meets Ends (beside client ids) (record { shown = shown; end = E.Done }) journal tt
   lines-meets law access (l ∷ ls) well s shown journal h =

@@ -18,26 +18,33 @@ use Rattle.play_outcome.specs.declared.outcome.RefLine.{RefLine}
 use Rattle.run_histories.specs.Told.{HasHistories}
 
 -- the branch's history ends at this snapshot
-pub record BranchEndsAt (files : Files) (changes : ℕ → Changes) (journal : List Event) (branch : List ℕ) (id : Id12) : Type 0 where
+pub record BranchEndsAt (files : Files) (changes : ℕ → Changes) (journal : List Event)
+    (branch : List ℕ) (id : Id12) : Type 0 where
   pub entry : Entry
   pub is_last : last (history_of files (applied changes) journal branch) ≡ Some entry
   pub names : entry.id ≡ id
 
 -- the tag stands at the end, and was made with this snapshot
-pub record TagEndsAt (files : Files) (journal : List Event) (tag : List ℕ) (id : Id12) : Type 0 where
+pub record TagEndsAt (files : Files) (journal : List Event) (tag : List ℕ)
+    (id : Id12) : Type 0 where
   pub entry : Entry
   pub stands : tag_of files journal tag ≡ Stands entry
   pub names : entry.id ≡ id
 
--- The lines are those of the refs that stand. Each branch's is the last entry of its history, and each tag's is the entry of its state; a tag that was
--- dropped, or never made, has no line.
-pub record TellsEnds (files : Files) (changes : ℕ → Changes) (journal : List Event) (lines : List RefLine) : Type 0 where
+-- The lines are those of the refs that stand. Each branch's is the last entry of its history, and
+-- each tag's is the entry of its state; a tag that was dropped, or never made, has no line.
+pub record TellsEnds (files : Files) (changes : ℕ → Changes) (journal : List Event)
+    (lines : List RefLine) : Type 0 where
   pub stand : TellsRefs journal lines
-  pub ends : (name : List ℕ) (id : Id12) → (HasLine lines (branch_line name id) ↔ BranchEndsAt files changes journal name id)
-  pub tags : (name : List ℕ) (id : Id12) → (HasLine lines (tag_line name id) ↔ TagEndsAt files journal name id)
+  pub ends : (name : List ℕ) (id : Id12)
+      → (HasLine lines (branch_line name id) ↔ BranchEndsAt files changes journal name id)
+  pub tags : (name : List ℕ) (id : Id12)
+      → (HasLine lines (tag_line name id) ↔ TagEndsAt files journal name id)
 
 -- From old to new a run kept the histories and the tags, and the refs that it tells are their ends.
-pub record LeavesBranches (draw : Draw) (tasks : List Task) (before : ℕ → Changes) (old new : List Event) (refs : Result (List RefLine) Refusal) : Type 0 where
+pub record KeepsRefs (draw : Draw) (tasks : List Task) (before : ℕ → Changes) (old new : List Event)
+    (refs : Result (List RefLine) Refusal) : Type 0 where
   pub start : List Event
   pub histories : HasHistories draw tasks before old start new
-  pub told : (lines : List RefLine) → refs ≡ Ok lines → TellsEnds (files_by (tree_of new)) histories.changes new lines
+  pub told : (lines : List RefLine) → refs ≡ Ok lines
+      → TellsEnds (files_by (tree_of new)) histories.changes new lines

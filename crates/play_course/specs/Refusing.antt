@@ -1,5 +1,6 @@
 -- Refusals that no run over an empty store gives, beside collections or without (own).
-use Rattle.std.specs.Prelude.{◌≡◌, ℕ, Bool, true, false, List, Some, Result, Ok, Err, slice_get, not}
+use Rattle.std.specs.Prelude.{◌≡◌, ℕ, Bool, true, false, List}
+use Rattle.std.specs.Prelude.{Some, Result, Ok, Err, slice_get, not}
 use Rattle.std.specs.List.{list_any}
 use Rattle.store_api.specs.declared.machines.Refusal.{Refusal}
 use Rattle.store_api.specs.declared.machines.Refusal.TheVariants as R
@@ -9,7 +10,8 @@ use Rattle.play_outcome.specs.declared.outcome.Outcome.{Outcome}
 use Rattle.play_outcome.specs.declared.outcome.RefLine.{RefLine}
 use Rattle.play_outcome.specs.Ending.{why_unsettled}
 
--- a drawn id that was taken, or a file that can't be read; and where nothing collects, an object that is missing
+-- a drawn id that was taken, or a file that can't be read; and where nothing
+-- collects, an object that is missing
 abbrev pub is_strange : (collects : Bool) → Refusal → Bool
 is_strange collects R.NoRef = false
 is_strange collects (R.Edit fault) = false
@@ -58,9 +60,12 @@ strange_end collects (E.Expired line cases (Err why)) = is_strange collects why
 strange_end collects (E.Checked line faults (Ok counts)) = false
 strange_end collects (E.Checked line faults (Err why)) = is_strange collects why
 
--- Nothing that was played was refused so: not the opening, no task, not the closing reading. Where a task collects, an object may be missing to the tasks,
--- but not to the opening and the closing reading.
-pub record NothingStrange (collects : Bool) (opening : Result (Unit {0}) Refusal) (outcomes : List Outcome) (refs : Result (List RefLine) Refusal) : Type 0 where
+-- Nothing that was played was refused so: not the opening, no task, not the closing
+-- reading. Where a task collects, an object may be missing to the tasks, but not to the
+-- opening and the closing reading.
+pub record NothingStrange (collects : Bool) (opening : Result (Unit {0}) Refusal)
+    (outcomes : List Outcome) (refs : Result (List RefLine) Refusal) : Type 0 where
   pub opened : strange_answer opening ≡ false
-  pub tasks : (place : ℕ) (outcome : Outcome) → slice_get outcomes place ≡ Some outcome → strange_end collects outcome.end ≡ false
+  pub tasks : (place : ℕ) (outcome : Outcome) → slice_get outcomes place ≡ Some outcome
+      → strange_end collects outcome.end ≡ false
   pub closed : strange_answer refs ≡ false

@@ -10,7 +10,7 @@ ghost use Rattle.run_histories.specs.Runs.{IsSound};
 ghost use Rattle.run_histories.specs.Sources.{IsNewRun};
 ghost use Rattle.run_histories.specs.Told.{HasHistories};
 ghost use Rattle.play_course.specs.Course.{Course, OnlyBegan};
-ghost use Rattle.play_course.specs.Leaving.{LeavesBranches};
+ghost use Rattle.play_course.specs.Leaving.{KeepsRefs};
 ghost use Rattle.play_course.specs.Refusing.{NothingStrange};
 
 use crate::running::play_tasks;
@@ -102,7 +102,7 @@ pub fn play<R: Threads + Wait + Sync, S: Base + Send, G: Gate + Sync>(
     // are kept, and the refs that were read are their ends.
     ensures leaves { IsTrue (S.view store).caller.tells → (before : ℕ → Changes)
         → IsSound (S.view store).seen before → IsNewRun draw script.now.tasks (S.view store).seen
-        → IfOk result.1 (λ played. LeavesBranches draw script.now.tasks before (S.view store).seen
+        → IfOk result.1 (λ played. KeepsRefs draw script.now.tasks before (S.view store).seen
         (S.view result.0).seen played.refs) }
     // Over one on which nothing was done before, where the clients draw no id twice, as it always is by counting, no drawn id is
     // taken, and every file can be read; and where no task collects, no object is missing.

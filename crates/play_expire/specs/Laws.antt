@@ -10,13 +10,17 @@ use Rattle.play_outcome.specs.declared.outcome.Outcome.{Outcome}
 use Rattle.play_expire.specs.Playing.{expire_task}
 use Rattle.play_expire.specs.Telling.{ExpiredTells}
 
--- Whatever others do, each operation of the task is polite, and one that its expiry owes; and the outcome tells the journal, where the task began at
--- `start`.
+-- Whatever others do, each operation of the task is polite, and one that its expiry owes; and the
+-- outcome tells the journal, where the task began at `start`.
 abbrev pub ExpireTaskLaw : Type 0
 ExpireTaskLaw = (by : Caller) (line : ℕ) (terms : Terms) (start : List Event)
-    → PlayKeeps (λ journal client op. IsPolite journal op × IsOwed terms start journal client op) by (expire_task line terms) start
+    → PlayKeeps (λ journal client op. IsPolite journal op × IsOwed terms start journal client op)
+    by (expire_task line terms) start
     × PlayLeads (ExpiredTells line terms by.number start) by (expire_task line terms) start
 
 -- what an outcome tells stays so, whatever good events others make
 abbrev pub ExpireOutcomeLaw : Type 0
-ExpireOutcomeLaw = (by : Caller) (line : ℕ) (terms : Terms) (outcome : Outcome) (start journal more : List Event) → Each (IsOther by) journal more → ExpiredTells line terms by.number start outcome journal → ExpiredTells line terms by.number start outcome (journal ++ more)
+ExpireOutcomeLaw =
+    (by : Caller) (line : ℕ) (terms : Terms) (outcome : Outcome) (start journal more : List Event)
+    → Each (IsOther by) journal more → ExpiredTells line terms by.number start outcome journal
+    → ExpiredTells line terms by.number start outcome (journal ++ more)

@@ -10,7 +10,11 @@ use Rattle.play_outcome.specs.declared.outcome.Outcome.{Outcome}
 
 -- the terms of an expiry: which snapshots are old, and which refs are dropped with them
 abbrev pub terms_of : (cutoff : ℕ) → (drop_branches drop_tags : Bool) → Terms
-terms_of cutoff drop_branches drop_tags = record { cutoff = cutoff; drop_branches = drop_branches; drop_tags = drop_tags }
+terms_of cutoff drop_branches drop_tags = record {
+  cutoff = cutoff;
+  drop_branches = drop_branches;
+  drop_tags = drop_tags;
+}
 
 -- how a task ends on this line of the script whose expiry ended so
 abbrev pub end_by : (line : ℕ) → Expired → End

@@ -1,4 +1,5 @@
--- What ended a task: a refusal, and whether it tells a want of memory or a fault of the store; and so of the leases that it left.
+-- What ended a task: a refusal, and whether it tells a want of memory or a fault of the store; and
+-- so of the leases that it left.
 use Rattle.std.specs.Prelude.{Bool, true, false, ◌||◌, List, [], ◌∷◌, ◌++◌, Some, None, Ok, Err}
 use Rattle.std.specs.List.{list_any, flat_map}
 use Rattle.store_api.specs.declared.machines.Refusal.{Refusal}
@@ -9,7 +10,8 @@ use Rattle.play_outcome.specs.declared.outcome.Shown.TheVariants.{Lease}
 use Rattle.play_outcome.specs.declared.outcome.How.{How}
 use Rattle.play_outcome.specs.declared.outcome.How.TheVariants as H
 use Rattle.play_outcome.specs.declared.outcome.End.{End}
-use Rattle.play_outcome.specs.declared.outcome.End.TheVariants.{Committed, Collected, Done, Refused, Stopped, InDoubt, Expired, Checked}
+use Rattle.play_outcome.specs.declared.outcome.End.TheVariants.{Committed, Collected, Done, Refused}
+use Rattle.play_outcome.specs.declared.outcome.End.TheVariants.{Stopped, InDoubt, Expired, Checked}
 use Rattle.play_outcome.specs.declared.outcome.Outcome.{Outcome}
 
 -- why a doubt couldn't be settled, if it couldn't

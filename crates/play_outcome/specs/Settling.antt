@@ -10,13 +10,15 @@ use Rattle.play_outcome.specs.declared.outcome.Outcome.{Outcome}
 use Rattle.play_outcome.specs.Ending.{ends_failed}
 
 -- what is left to do after a step of a machine that has q left
-abbrev pub settled : {A B : Type 0} → (Result A Refusal → Play B) → Prog (Result A Refusal) → Result (Next A) Refusal → Play B
+abbrev pub settled : {A B : Type 0} → (Result A Refusal → Play B) → Prog (Result A Refusal)
+    → Result (Next A) Refusal → Play B
 settled f q (Ok Again) = call q f
 settled f q (Ok (Ready a)) = f (Ok a)
 settled f q (Err refusal) = f (Err refusal)
 
 -- where a worker stands behind a machine that only reads: want of memory may come behind its answer
-abbrev pub ComesOrStarves : {A : Type 0} → (Result A Refusal → Play Outcome) → Prog (Result A Refusal) → Result (Next A) Refusal → Play Outcome → Type 0
+abbrev pub ComesOrStarves : {A : Type 0} → (Result A Refusal → Play Outcome)
+    → Prog (Result A Refusal) → Result (Next A) Refusal → Play Outcome → Type 0
 ComesOrStarves f q answer p = Comes (settled f q answer) p ⊎ Comes (f (Err NoMemory)) p
 
 -- a machine that answered `Again` has something to do

@@ -16,7 +16,7 @@ use Rattle.repo_read.specs.declared.resolving.At.{At}
 use Rattle.repo_read.proofs.Own.{MadeGets-none}
 use Rattle.refs_admin.specs.Branches.{branch_new_program, branch_reset_program, branch_drop_program}
 use Rattle.refs_admin.specs.Tags.{tag_new_program, tag_drop_program}
-use Rattle.refs_admin.specs.Logs.{log_program}
+use Rattle.refs_admin.specs.LogReading.{chain_log_program}
 use Rattle.refs_admin.specs.declared.log.LogLine.{LogLine}
 use Rattle.refs_admin.specs.BranchTelling.{BranchNewTells, BranchResetTells, BranchDropTells}
 use Rattle.refs_admin.specs.TagTelling.{TagNewTells, TagDropTells}
@@ -98,11 +98,11 @@ module _ (by : Caller) (R : Outcome → List Event → Type 0) where
           stays = λ journal. ends-stay (IsBurying name) (TagDropTells by.number name journal) by journal (tag_drop_program name) journal e (MadeGets-none by.number journal) (t.leads journal);
         }
 
-    log-known : (at : At) → Known by (log_program at) (LogTells by.number at) (StarvedCall by.number (ref.Log at))
+    log-known : (at : At) → Known by (chain_log_program at) (LogTells by.number at) (StarvedCall by.number (ref.Log at))
     log-known at = record {
       told = law.log at;
-      owes = λ journal. gets-owes by (log_program at) journal (log-gets at);
-      stays = λ journal. gets-stay by journal (log_program at) journal (log-gets at) (MadeGets-none by.number journal);
+      owes = λ journal. gets-owes by (chain_log_program at) journal (log-gets at);
+      stays = λ journal. gets-stay by journal (chain_log_program at) journal (log-gets at) (MadeGets-none by.number journal);
     }
 
     -- ---- a call, and what follows
@@ -148,7 +148,7 @@ module _ (by : Caller) (R : Outcome → List Event → Type 0) where
         answered (Ok done) h t = made [] h (refl, t)
         answered (Err why) h t = refused why h t
     ref-well line (ref.Log at) next journal made refused starved =
-        called-well (log_program at) (LogTells by.number at) (StarvedCall by.number (ref.Log at)) (log-known at) (λ answer. next (logged line answer)) journal answered starved
+        called-well (chain_log_program at) (LogTells by.number at) (StarvedCall by.number (ref.Log at)) (log-known at) (λ answer. next (logged line answer)) journal answered starved
       where
         answered : (answer : Result (List LogLine) Refusal) (h : List Event) → LogTells by.number at journal answer h → GoesWell (next (logged line answer)) h
         answered (Ok lines) h t = made (map (log_shown line) lines) h (lines, refl, t)

@@ -5,7 +5,7 @@ use Rattle.store_api.specs.Plays.{Play, Comes, dooms}
 use Rattle.store_api.proofs.PlayLaws.{dooms-came}
 use Rattle.refs_admin.specs.Branches.{branch_new_program, branch_reset_program, branch_drop_program}
 use Rattle.refs_admin.specs.Tags.{tag_new_program, tag_drop_program}
-use Rattle.refs_admin.specs.Logs.{log_program}
+use Rattle.refs_admin.specs.LogReading.{chain_log_program}
 use Rattle.script_calls.specs.declared.calls.RefCall.{RefCall}
 use Rattle.script_calls.specs.declared.calls.RefCall.TheVariants as ref
 use Rattle.script_calls.specs.declared.calls.Call.{Call}
@@ -15,7 +15,7 @@ use Rattle.play_outcome.specs.declared.outcome.Shown.{Shown}
 use Rattle.play_outcome.specs.declared.outcome.Outcome.{Outcome}
 use Rattle.play_outcome.specs.Ending.{is_failed, shows_failed}
 use Rattle.play_refs.specs.Playing.{Rest, unseen, logged, ref_play, after_ref, play_ref_line, refs_play}
-use Rattle.play_refs.proofs.Beginning.{new-asks, reset-asks, tag-asks, log-asks}
+use Rattle.play_refs.proofs.NewMachines.{new-asks, reset-asks, tag-asks, log-asks}
 
 -- no lease was left, and the end tells no fault
 plain-calm : (shown : List Shown) → shows_failed shown ≡ false → (shows_failed shown || false) ≡ false
@@ -27,7 +27,7 @@ call-calm line (ref.Reset name at) shown rest q plain c = dooms-came is_failed (
 call-calm line (ref.Unbranch name) shown rest q plain c = dooms-came is_failed (branch_drop_program name) (λ answer. after_ref line shown rest (unseen answer)) q refl c ∙ plain-calm shown plain
 call-calm line (ref.Tag name at) shown rest q plain c = dooms-came is_failed (tag_new_program name at) (λ answer. after_ref line shown rest (unseen answer)) q (tag-asks name at) c ∙ plain-calm shown plain
 call-calm line (ref.Untag name) shown rest q plain c = dooms-came is_failed (tag_drop_program name) (λ answer. after_ref line shown rest (unseen answer)) q refl c ∙ plain-calm shown plain
-call-calm line (ref.Log at) shown rest q plain c = dooms-came is_failed (log_program at) (λ answer. after_ref line shown rest (logged line answer)) q (log-asks at) c ∙ plain-calm shown plain
+call-calm line (ref.Log at) shown rest q plain c = dooms-came is_failed (chain_log_program at) (λ answer. after_ref line shown rest (logged line answer)) q (log-asks at) c ∙ plain-calm shown plain
 
 line-calm : (line : ℕ) (x : Call) (shown : List Shown) (rest : Rest) (q : Play Outcome) → shows_failed shown ≡ false → (Comes (rest shown) q → dooms is_failed q ≡ false) → Comes (play_ref_line line x shown rest) q → dooms is_failed q ≡ false
 line-calm line (calls_of.Ref r) shown rest q plain calm c = call-calm line r shown rest q plain c

@@ -3,7 +3,7 @@ pub mod Shaped
 pub mod Tagging
 pub mod Calls
 pub mod Playing
-pub mod Beginning
+pub mod NewMachines
 pub mod Leaving
 pub mod Reading
 pub mod Calm

@@ -16,7 +16,7 @@ use Rattle.repo_read.specs.Seeking.{resolving_rest}
 use Rattle.refs_admin.specs.declared.log.LogLine.{LogLine}
 use Rattle.refs_admin.specs.declared.log.Logging.{Logging}
 use Rattle.refs_admin.specs.declared.log.Log.{Log}
-use Rattle.refs_admin.specs.Logs.{line_of}
+use Rattle.refs_admin.specs.LogReading.{line_of}
 use Rattle.refs_admin.specs.inside.Working.{log_walk, walk_rest, logging_rest, log_rest}
 use Rattle.play_refs.proofs.Shapes.{Gets, ask-gets, done-gets, then-gets, is-get}
 use Rattle.play_refs.proofs.Shaped.{first-gets}

@@ -18,7 +18,7 @@ use Rattle.repo_read.specs.Resolving.{resolve_at_program, tag_program, tombstone
 use Rattle.refs_admin.specs.Targets.{target_program}
 use Rattle.refs_admin.specs.Branches.{branch_new_program, branch_reset_program, branch_drop_program, removal}
 use Rattle.refs_admin.specs.Tags.{tag_drop_program}
-use Rattle.refs_admin.specs.Logs.{refused_now, refused_first, chain_at, log_program}
+use Rattle.refs_admin.specs.LogReading.{refused_now, refused_first, chain_at, chain_log_program}
 use Rattle.refs_admin.specs.BranchTelling.{creates, resets, removes}
 use Rattle.refs_admin.specs.TagTelling.{buries}
 use Rattle.play_refs.specs.Telling.{OwesRefs}
@@ -90,7 +90,7 @@ chain-gets (At.Branch name) id = walk-gets most_snapshots [] id
 chain-gets (At.Tag name) id = walk-gets most_snapshots [] id
 chain-gets (At.Snapshot own) id = first-gets _ (chain_program id) (walk-gets most_snapshots [] id)
 
-pub log-gets : (at : At) → Gets (log_program at)
+pub log-gets : (at : At) → Gets (chain_log_program at)
 log-gets at = then-gets (resolve_at_program at) _ (resolve-gets at) (λ named. then-gets (chain_at at named.id) _ (chain-gets at named.id) (λ seen. done-gets _))
 
 -- ---- what they owe

@@ -1,5 +1,7 @@
 -- The report of a run (own): lines of words.
-use Rattle.std.specs.Prelude.{ℕ, ℤ, is_some, ◌/◌, ◌%◌, ◌==◌, nat_lt, List, [], ◌∷◌, ◌++◌, map, Bool, true, false, ◌&&◌, ◌||◌, if◌then◌else◌, Option, Some, None, Result, Ok, Err, codes, decimal}
+use Rattle.std.specs.Prelude.{ℕ, ℤ, ◌/◌, ◌%◌, ◌==◌, nat_lt, List, [], ◌∷◌, ◌++◌}
+use Rattle.std.specs.Prelude.{map, Bool, true, false, ◌&&◌, ◌||◌, if◌then◌else◌}
+use Rattle.std.specs.Prelude.{Option, Some, None, Result, Ok, Err, codes, decimal}
 use Rattle.std.specs.List.{flat_map}
 use Rattle.std.specs.Fmt.{signed_decimal}
 use Rattle.std.specs.Char.{digit_char}
@@ -17,11 +19,13 @@ use Rattle.check_reports.specs.declared.faults.CheckFault.{CheckFault}
 use Rattle.check_reports.specs.declared.faults.Checked.{Checked as Counts}
 use Rattle.store_api.specs.declared.machines.Refusal.{Refusal}
 use Rattle.play_outcome.specs.declared.outcome.Shown.{Shown}
-use Rattle.play_outcome.specs.declared.outcome.Shown.TheVariants.{Node, Meta, Chunk, Fill, Cells, Key, Log, Lease}
+use Rattle.play_outcome.specs.declared.outcome.Shown.TheVariants.{Node, Meta, Chunk, Fill}
+use Rattle.play_outcome.specs.declared.outcome.Shown.TheVariants.{Cells, Key, Log, Lease}
 use Rattle.play_outcome.specs.declared.outcome.How.{How}
 use Rattle.play_outcome.specs.declared.outcome.How.TheVariants as how
 use Rattle.play_outcome.specs.declared.outcome.End.{End}
-use Rattle.play_outcome.specs.declared.outcome.End.TheVariants.{Committed, Collected, Done, Refused, Stopped, InDoubt, Expired, Checked}
+use Rattle.play_outcome.specs.declared.outcome.End.TheVariants.{Committed, Collected, Done, Refused}
+use Rattle.play_outcome.specs.declared.outcome.End.TheVariants.{Stopped, InDoubt, Expired, Checked}
 use Rattle.play_outcome.specs.declared.outcome.Outcome.{Outcome}
 use Rattle.play_outcome.specs.declared.outcome.RefLine.{RefLine}
 use Rattle.play_report.specs.Words.{◌space◌}
@@ -78,8 +82,10 @@ shown_text (Fill line) = decimal line space codes "fill"
 shown_text (Cells line numbers) = decimal line space codes "cells" space cells_text numbers
 shown_text (Key line bytes) = decimal line space codes "zget" space value_text bytes
 shown_text (Log line snapshot flushed_at message props) =
-    decimal line space codes "log" space id12_text snapshot space decimal flushed_at space map printed message
-shown_text (Lease line id left) = decimal line space codes "unreleased" space id12_text id space why_text left
+    decimal line space codes "log" space id12_text snapshot space decimal flushed_at
+    space map printed message
+shown_text (Lease line id left) =
+    decimal line space codes "unreleased" space id12_text id space why_text left
 
 abbrev pub shown_line : List ℕ → Shown → List ℕ
 shown_line name shown = line_of name (shown_text shown)
@@ -99,33 +105,23 @@ property_lines name (Chunk line bytes) = []
 property_lines name (Fill line) = []
 property_lines name (Cells line numbers) = []
 property_lines name (Key line bytes) = []
-property_lines name (Log line snapshot flushed_at message props) = flat_map (property_line name line) props
+property_lines name (Log line snapshot flushed_at message props) =
+    flat_map (property_line name line) props
 property_lines name (Lease line id left) = []
 
 abbrev pub is_lease : Shown → Bool
-is_lease (Node line array path) = false
-is_lease (Meta line text) = false
-is_lease (Chunk line bytes) = false
-is_lease (Fill line) = false
-is_lease (Cells line numbers) = false
-is_lease (Key line bytes) = false
-is_lease (Log line snapshot flushed_at message props) = false
 is_lease (Lease line id left) = true
+is_lease _ = false
 
 -- a lease shows nothing where it was put
 abbrev pub shown_lines : List ℕ → Shown → List ℕ
-shown_lines name shown = if is_lease shown then [] else shown_line name shown ++ property_lines name shown
+shown_lines name shown =
+    if is_lease shown then [] else shown_line name shown ++ property_lines name shown
 
 -- a lease whose release was refused
 abbrev pub is_left : Shown → Bool
-is_left (Node line array path) = false
-is_left (Meta line text) = false
-is_left (Chunk line bytes) = false
-is_left (Fill line) = false
-is_left (Cells line numbers) = false
-is_left (Key line bytes) = false
-is_left (Log line snapshot flushed_at message props) = false
-is_left (Lease line id left) = is_some left
+is_left (Lease line id (Some why)) = true
+is_left _ = false
 
 -- such a one is a line behind all that was shown
 abbrev pub left_lines : List ℕ → Shown → List ℕ
@@ -133,7 +129,9 @@ left_lines name shown = if is_left shown then shown_line name shown else []
 
 -- how many snapshots, logs, manifests and objects with chunks a collection removed
 abbrev pub removed_text : Removed → List ℕ
-removed_text r = codes "collected" space decimal r.snapshots space decimal r.logs space decimal r.manifests space decimal r.chunks
+removed_text r =
+    codes "collected" space decimal r.snapshots space decimal r.logs
+    space decimal r.manifests space decimal r.chunks
 
 abbrev pub is_nothing : Removed → Bool
 is_nothing r = (r.snapshots == 0) && (r.logs == 0) && (r.manifests == 0) && (r.chunks == 0)
@@ -181,8 +179,8 @@ fault_text f = fault_word f.kind space key_name f.key
 abbrev pub fault_line : List ℕ → CheckFault → List ℕ
 fault_line name f = line_of name (fault_text f)
 
--- what was done, before the ending tells whether it is all: what a collection removed that was refused, what an expiry made of each ref, and the
--- faults that a check found
+-- what was done, before the ending tells whether it is all: what a collection removed that was
+-- refused, what an expiry made of each ref, and the faults that a check found
 abbrev pub done_lines : List ℕ → End → List ℕ
 done_lines name (Committed id) = []
 done_lines name (Collected removed) = []
@@ -233,11 +231,13 @@ end_text (Checked line faults result) = checked_text line result
 -- what a task showed in order, the leases that it left, what it had done, and then how it ended
 abbrev pub outcome_text : List ℕ → Outcome → List ℕ
 outcome_text name outcome =
-    flat_map (shown_lines name) outcome.shown ++ (flat_map (left_lines name) outcome.shown ++ (done_lines name outcome.end ++ line_of name (end_text outcome.end)))
+    flat_map (shown_lines name) outcome.shown ++ (flat_map (left_lines name) outcome.shown
+    ++ (done_lines name outcome.end ++ line_of name (end_text outcome.end)))
 
 -- each task in order, under its name; what one list has beyond the other is left out
 abbrev pub tasks_text : List (List ℕ) → List Outcome → List ℕ
-tasks_text (name ∷ names) (outcome ∷ outcomes) = outcome_text name outcome ++ tasks_text names outcomes
+tasks_text (name ∷ names) (outcome ∷ outcomes) =
+    outcome_text name outcome ++ tasks_text names outcomes
 tasks_text (name ∷ names) [] = []
 tasks_text [] outcomes = []
 
@@ -267,5 +267,6 @@ played_text names (Ok opened) outcomes = tasks_text names outcomes
 played_text names (Err why) outcomes = opening_text why
 
 -- the report of a run of tasks of these names
-unfoldable pub report_of : List (List ℕ) → Result (Unit {0}) Refusal → List Outcome → Result (List RefLine) Refusal → List ℕ
+unfoldable pub report_of : List (List ℕ) → Result (Unit {0}) Refusal → List Outcome
+    → Result (List RefLine) Refusal → List ℕ
 report_of names opening outcomes refs = played_text names opening outcomes ++ refs_text refs

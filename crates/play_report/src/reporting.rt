@@ -46,16 +46,7 @@ fn add_property_lines<K: Sink>(out: &mut Draft, to: &mut K, name: &[u8], shown: 
 fn is_lease(shown: &Shown) -> bool
     ensures { result ≡ is_lease shown.now }
 {
-    match shown {
-        Shown::Node { .. }
-        | Shown::Meta { .. }
-        | Shown::Chunk { .. }
-        | Shown::Fill { .. }
-        | Shown::Cells { .. }
-        | Shown::Key { .. }
-        | Shown::Log { .. } => false,
-        Shown::Lease { .. } => true,
-    }
+    matches!(shown, Shown::Lease { .. })
 }
 
 /// What a task showed: a line, and one for each property of a snapshot of a log; but nothing of a lease.
@@ -82,16 +73,7 @@ fn add_all_shown<K: Sink>(out: &mut Draft, to: &mut K, name: &[u8], all: &[Shown
 fn is_left(shown: &Shown) -> bool
     ensures { result ≡ is_left shown.now }
 {
-    match shown {
-        Shown::Node { .. }
-        | Shown::Meta { .. }
-        | Shown::Chunk { .. }
-        | Shown::Fill { .. }
-        | Shown::Cells { .. }
-        | Shown::Key { .. }
-        | Shown::Log { .. } => false,
-        Shown::Lease { left, .. } => left.is_some(),
-    }
+    matches!(shown, Shown::Lease { left: Some(_), .. })
 }
 
 /// A lease that was left, as a line.

@@ -2,7 +2,8 @@
 use Rattle.std.specs.Prelude.{Bool, true, false, List}
 use Rattle.std.specs.List.{list_any}
 use Rattle.script_calls.specs.declared.calls.Head.{Head}
-use Rattle.script_calls.specs.declared.calls.Head.TheVariants.{Session, Refs, Collect, Expire, Check}
+use Rattle.script_calls.specs.declared.calls.Head.TheVariants.{Session, Refs}
+use Rattle.script_calls.specs.declared.calls.Head.TheVariants.{Collect, Expire, Check}
 use Rattle.play_script.specs.declared.scripts.Task.{Task}
 
 abbrev pub is_collection : Head → Bool

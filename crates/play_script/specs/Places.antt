@@ -1,5 +1,7 @@
 -- Own: where a line may stand, in view of the script before it and nothing else.
-use Rattle.std.specs.Prelude.{ℕ, ◌+◌, ◌-◌, List, [], ◌∷◌, ◌++◌, ◌==◌, nat_lt, if◌then◌else◌, Option, Some, None, is_some, Result, Ok, Err, Bool, true, false, not, ◌&&◌, ◌||◌, length, slice_get, codes}
+use Rattle.std.specs.Prelude.{ℕ, ◌+◌, ◌-◌, List, [], ◌∷◌, ◌++◌, ◌==◌, nat_lt}
+use Rattle.std.specs.Prelude.{if◌then◌else◌, Option, Some, None, is_some, Result, Ok, Err}
+use Rattle.std.specs.Prelude.{Bool, true, false, not, ◌&&◌, ◌||◌, length, slice_get, codes}
 use Rattle.std.specs.List.{list_any}
 use Rattle.std.specs.Str.{is_utf8}
 use Rattle.script_values.specs.declared.kinds.ScriptKind.{ScriptKind}
@@ -85,7 +87,8 @@ with_line s n call = record s { tasks = onto_last (record { number = n; call = c
 unfoldable pub body_line : Script → ℕ → Text → Option Text → Result Script ScriptKind
 body_line s n first rest =
     let f = form_of first rest in
-    made (λ v. with_line s n v.1) (only_if (is_open s && takes (last s.tasks) f.class) k.Misplaced & f.call)
+    made (λ v. with_line s n v.1)
+    (only_if (is_open s && takes (last s.tasks) f.class) k.Misplaced & f.call)
 
 -- which lines are passed over: empty ones and comments
 abbrev pub is_passed : Text → Bool
@@ -107,7 +110,8 @@ abbrev pub is_used : List Task → Text → Bool
 is_used tasks name = list_any (λ t. t.name reads name) tasks
 
 abbrev pub with_task : Script → ℕ → Text → Head → Script
-with_task s n name head = record s { tasks = s.tasks ++ record { name = name; line = n; head = head; body = [] } ∷ [] }
+with_task s n name head =
+    record s { tasks = s.tasks ++ record { name = name; line = n; head = head; body = [] } ∷ [] }
 
 -- a head's place: before the turns, and a task of refs has a line
 unfoldable pub is_head_placed : Script → List Text → Text → Bool
@@ -120,13 +124,16 @@ may_begin s after name word = made (λ v. v.1) (
     & only_if (nat_lt (length s.tasks) most_tasks) k.Many
     & only_if (not (is_used s.tasks name)) k.Name)
 
-unfoldable pub task_line : Script → ℕ → List Text → Text → Text → Option Text → Result Script ScriptKind
+unfoldable pub task_line : Script → ℕ → List Text → Text → Text → Option Text
+    → Result Script ScriptKind
 task_line s n after name word rest =
-    made (λ v. with_task s n v.0.1 v.1) (may_begin s after name word & task_name_of name & head_of word rest)
+    made (λ v. with_task s n v.0.1 v.1)
+    (may_begin s after name word & task_name_of name & head_of word rest)
 
 -- `task NAME HEAD`
 unfoldable pub head_line : Script → ℕ → List Text → Option Text → Result Script ScriptKind
-head_line s n after rest = taken (next rest) (λ p. taken (next p.1) (λ q. task_line s n after p.0 q.0 q.1))
+head_line s n after rest =
+    taken (next rest) (λ p. taken (next p.1) (λ q. task_line s n after p.0 q.0 q.1))
 
 -- the turns: each word is `NAME` or `NAME*COUNT`
 
@@ -140,11 +147,14 @@ turn v = record { client = v.0; count = v.1 }
 
 unfoldable pub turn_of : List Task → Text → Result Turn ScriptKind
 turn_of tasks w =
-    if length w == 0 then Err k.Word else made turn (client_from 1 tasks (cut_of 42 w).0 & count_of (cut_of 42 w).1)
+    if length w == 0 then Err k.Word
+    else made turn (client_from 1 tasks (cut_of 42 w).0 & count_of (cut_of 42 w).1)
 
 -- `turns WORDS`
 unfoldable pub turns_line : Script → Option Text → Result Script ScriptKind
-turns_line s rest = made (λ v. record s { turns = Some v.1 }) (only_if (is_open s) k.Misplaced & each (turn_of s.tasks) (pieces 32 rest))
+turns_line s rest =
+    made (λ v. record s { turns = Some v.1 })
+    (only_if (is_open s) k.Misplaced & each (turn_of s.tasks) (pieces 32 rest))
 
 -- a line by its first word
 unfoldable pub words_line : Script → ℕ → List Text → Text → Option Text → Result Script ScriptKind

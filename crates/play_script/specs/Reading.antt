@@ -1,5 +1,6 @@
 -- Own: the script that a text stands for, or its first fault.
-use Rattle.std.specs.Prelude.{◌≡◌, ℕ, ◌+◌, List, [], ◌∷◌, ◌==◌, nat_le, if◌then◌else◌, None, Result, Ok, Err, length, take, count_by}
+use Rattle.std.specs.Prelude.{◌≡◌, ℕ, ◌+◌, List, [], ◌∷◌, ◌==◌, nat_le, if◌then◌else◌}
+use Rattle.std.specs.Prelude.{None, Result, Ok, Err, length, take, count_by}
 use Rattle.script_values.specs.declared.kinds.ScriptKind.{ScriptKind}
 use Rattle.script_values.specs.declared.kinds.ScriptKind.TheVariants.{Long}
 use Rattle.play_script.specs.declared.faults.ScriptFault.{ScriptFault}
@@ -13,7 +14,8 @@ abbrev pub most_bytes : ℕ
 most_bytes = 1048576
 
 -- what a line is read as, if it can be, and then more; else its number and kind
-abbrev pub at_line : ℕ → Result Script ScriptKind → (Script → Result Script (ℕ × ScriptKind)) → Result Script (ℕ × ScriptKind)
+abbrev pub at_line : ℕ → Result Script ScriptKind → (Script → Result Script (ℕ × ScriptKind))
+    → Result Script (ℕ × ScriptKind)
 at_line n (Ok s) more = more s
 at_line n (Err kind) more = Err (n, kind)
 

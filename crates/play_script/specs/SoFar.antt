@@ -1,4 +1,5 @@
--- What the code has read so far, as the contracts of its own functions say it; no public contract cites this.
+-- What the code has read so far, as the contracts of its own functions say it;
+-- no public contract cites this.
 use Rattle.std.specs.Prelude.{Bool, List, map}
 use Rattle.std.specs.List.{list_any}
 use Rattle.play_script.specs.declared.scripts.Task.{Task}

@@ -1,5 +1,6 @@
 -- Own: what holds of every script that was read.
-use Rattle.std.specs.Prelude.{◌≡◌, ◌≢◌, ℕ, ℤ, ◌+◌, ◌^◌, ◌<◌, ◌≤◌, List, [], ◌∷◌, length, map, IfSome, IsTrue, All, AllPairs}
+use Rattle.std.specs.Prelude.{◌≡◌, ◌≢◌, ℕ, ℤ, ◌+◌, ◌^◌, ◌<◌, ◌≤◌, List, [], ◌∷◌}
+use Rattle.std.specs.Prelude.{length, map, IfSome, IsTrue, All, AllPairs}
 use Rattle.ice_base.specs.Names.{IsRefName}
 use Rattle.ice_base.specs.Lists.{IsBytes}
 use Rattle.std.specs.Str.{is_utf8}

@@ -1,6 +1,6 @@
 //! Whole scripts, line by line.
 
-ghost use Rattle.std.specs.Prelude.{◌≡◌, ◌≤◌, ◌<◌, ◌+◌, IfOk, MatchOption, length, false, true, take};
+ghost use Rattle.std.specs.Prelude.{◌≡◌, ◌≤◌, ◌<◌, ◌+◌, Err, IfOk, MatchOption, length, false, true, take};
 ghost use Rattle.std.specs.Str.{is_utf8};
 ghost use Rattle.script_values.specs.Words.{seen, lines_of};
 ghost use Rattle.play_script.specs.Places.{most_tasks, words_line, line_at};
@@ -134,6 +134,9 @@ impl Script {
     #[tactic(auto, unfolding(crate::specs::Reading::script_of))]
     pub fn read(alloc: Global, text: &[u8]) -> Result<Script, ScriptFault>
         ensures reads { IsReading (script_of text.now) result }
+        ensures long { most_bytes < length text.now
+            → result
+            ≡ Err (ScriptFault.At (feeds (take most_bytes text.now) + 1) ScriptKind.Long) }
         ensures well { IfOk result IsWell }
     {
         if text.len() > MOST_BYTES {

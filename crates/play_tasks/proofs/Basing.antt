@@ -11,7 +11,7 @@ use Rattle.zarr_path.specs.declared.keys.ZarrKey.{ZarrKey}
 use Rattle.zarr_path.specs.declared.keys.ZarrKey.TheVariants as zarr
 use Rattle.zarr_path.specs.Keys.{key_of}
 use Rattle.zarr_meta.specs.declared.faults.MetaFault.{MetaFault}
-use Rattle.zarr_meta.specs.declared.views.View.{View}
+use Rattle.zarr_meta.specs.declared.views.MetaView.{MetaView}
 use Rattle.zarr_meta.specs.Meta.{meta_of}
 use Rattle.zarr_changes.specs.Sets.{add_refusal, text_refusal, drop_refusal, unset_refusal}
 use Rattle.snapshot_file.specs.declared.properties.PropFault.{PropFault}
@@ -75,7 +75,7 @@ use Rattle.script_calls.specs.declared.calls.ReadCall.TheVariants as read
 use Rattle.play_outcome.specs.declared.outcome.Outcome.{Outcome}
 use Rattle.play_outcome.specs.declared.outcome.Shown.{Shown}
 use Rattle.play_outcome.specs.Playing.{refused}
-use Rattle.play_tasks.specs.Lines.{Deed, Goes, Sets, Reads, Puts, Gathers, Leases, Commits, deed, edited, edit_deed, read_deed, key_set_deed, key_get_deed, read_by, silent, still}
+use Rattle.play_tasks.specs.Lines.{LineDeed, Goes, Sets, Reads, Puts, Gathers, Leases, Commits, deed, edits_to, edit_deed, read_deed, key_set_deed, key_get_deed, read_by, silent, still}
 use Rattle.settle.specs.declared.settle.Settled.{Settled as TheSettled}
 use Rattle.settle.specs.Settling.{settle_program}
 use Rattle.leases.specs.declared.lease.Leased.{Leased}
@@ -105,7 +105,7 @@ drawn-leaves : (s : SessionState) (path text : List ℕ) (id : Option Id8) → I
 drawn-leaves s path text None = tt
 drawn-leaves s path text (Some id) = record { base = refl; origin = refl }
 
-added-leaves : (fault : Result View MetaFault → Option MetaFault) (s : SessionState) (path text : List ℕ) → IfOk (added fault s path text) (λ a. IsSame s a.1)
+added-leaves : (fault : Result MetaView MetaFault → Option MetaFault) (s : SessionState) (path text : List ℕ) → IfOk (added fault s path text) (λ a. IsSame s a.1)
 unfolding added
 added-leaves fault s path text = by_writes _ (writes s) _ (by_text _ (fault (meta_of text)) _ (by_edit _ (add_refusal (nodes_seen s) path) _ (drawn-leaves s path text (drawn8 s.ids))))
 
@@ -143,7 +143,7 @@ way-leaves Well s no_key = tt
 way-leaves Well s stays = same s
 
 -- what a deed goes to
-abbrev GoesSame : SessionState → Deed → Type 0
+abbrev GoesSame : SessionState → LineDeed → Type 0
 GoesSame s (Goes r) = IfOk r (λ went. IsSame s went.1)
 GoesSame s (Sets path index bytes) = Unit {0}
 GoesSame s (Reads path index show) = Unit {0}
@@ -175,7 +175,7 @@ edit-same s (edit.Set path index bytes) = tt
 edit-same s (edit.Fill path index byte) = tt
 edit-same s (edit.Put place numbers) = tt
 edit-same s (edit.KeySet key bytes) = key-set-same s bytes (key_of key)
-edit-same s x = silent-same s (edited x s) (way-leaves (IsWellEdit x) s (edited-way x s))
+edit-same s x = silent-same s (edits_to x s) (way-leaves (IsWellEdit x) s (edited-way x s))
 
 read-same : (line : ℕ) (s : SessionState) (x : ReadCall) → GoesSame s (read_deed line x s)
 read-same line s (read.List path) = still-same s (read_by line (read.List path) s)
@@ -406,7 +406,7 @@ module _ (by : Caller) (a : Asked) (start : List Event) where
         (λ l j c. confirmed-opens line (shown ++ placed_shown show l.placed) s (after_draw s) rest j (record { base = refl; origin = refl }) go l.result c))
         (λ why e. refused-opens line shown why h)
 
-    deed-opens : (line : ℕ) (shown : List Shown) (s : SessionState) (rest : SessionState → List Shown → Play Outcome) (h : List Event) → Base s h → GoOn rest → (d : Deed) → GoesSame s d → OpensAll (play_deed access line shown s d rest) h
+    deed-opens : (line : ℕ) (shown : List Shown) (s : SessionState) (rest : SessionState → List Shown → Play Outcome) (h : List Event) → Base s h → GoOn rest → (d : LineDeed) → GoesSame s d → OpensAll (play_deed access line shown s d rest) h
     deed-opens line shown s rest h x go (Goes (Ok went)) leaves = go went.1 (shown ++ went.0) h (settled-same s went.1 h leaves x)
     deed-opens line shown s rest h x go (Goes (Err why)) leaves = refused-opens line shown why h
     deed-opens line shown s rest h x go (Sets path index bytes) leaves =

@@ -1,5 +1,5 @@
 -- What the programs of boxes of cells may do and answer, and what of it stays so.
-use Rattle.std.proofs.Common.{◌≡◌, ◌∙◌, refl, sym, ap, subst, cond, ℕ, ℤ, Bool, true, false, List, [], ◌∷◌, ◌++◌, length, replicate, Option, None, Some, Result, Ok, Err}
+use Rattle.std.proofs.Common.{◌≡◌, ◌∙◌, refl, sym, subst, cond, ℕ, ℤ, Bool, true, false, List, [], ◌∷◌, ◌++◌, length, replicate, Option, None, Some, Result, Ok, Err}
 use Rattle.std.specs.Prelude.{◌==◌, option_map, IfOk}
 use Rattle.std.specs.FinMap.{get}
 use Rattle.ice_ids.specs.declared.Id8.{Id8}
@@ -46,7 +46,7 @@ use Rattle.session.specs.declared.chunks.Value.TheVariants.{Bytes, Fill}
 use Rattle.session.specs.Sessions.{SessionState, nodes_seen, overlay}
 use Rattle.session.specs.Arrays.{array_at}
 use Rattle.session.specs.Editing.{refusal_of_edit}
-use Rattle.session.specs.Chunks.{with_chunk, set_program, put_object, after_object, found, read_object, read_own, read_place}
+use Rattle.session.specs.Chunks.{with_chunk, set_program, put_object, after_object, found_bytes, read_object, read_own, read_place}
 use Rattle.chunk_calls.proofs.Growing.{Surely-append}
 use Rattle.chunk_calls.proofs.Lasting.{WasSet-append}
 use Rattle.chunk_calls.proofs.Setting.{session_out, set-cases}
@@ -55,12 +55,12 @@ use Rattle.array_region.specs.Cells.{cells_of}
 use Rattle.array_region.specs.Planning.{box_count}
 use Rattle.array_region.specs.Reading.{Kept, Chunk, Reads, keeping, entry_kept, in_file, in_manifest, file_kept, listed_kept, entered_kept, chunk_kept, with_value, read_chunks, read_box, read_array, region_program}
 use Rattle.array_region.specs.Writing.{is_covered, old_chunk, bytes_put, write_chunks, outside_from, cells_refused, region_set_program}
-use Rattle.array_region.proofs.Planned.{no_array, no_box}
-use Rattle.region_calls.specs.Told.{AreCells, RegionTells}
-use Rattle.region_calls.specs.Written.{IsTreeWith, AreSet, WasWritten, RegionSetTells}
+use Rattle.array_region.proofs.Planned.{no_array, refused_box}
+use Rattle.region_calls.specs.Told.{AreCells}
+use Rattle.region_calls.specs.Written.{IsTreeWith, AreSet, WasWritten}
 use Rattle.region_calls.proofs.Sets.{reads_of_box, box_cases}
 use Rattle.play_tasks.specs.Telling.{IsOfChunks, TellsOfChunks}
-use Rattle.play_tasks.specs.Bases.{LeasesAlone}
+use Rattle.play_tasks.specs.Bases.{IsLeaseOf}
 use Rattle.play_tasks.proofs.Within.{Within, WithinOk, IsSame, bind-within}
 use Rattle.play_tasks.proofs.Singly.{weaker-within}
 
@@ -117,7 +117,7 @@ edit-tells F.NoMemory = tt
 
 -- ---- programs
 -- any operation that gets what is no branch, or puts something new that is no lease
-module _ (may : Op → Type 0) (gets : (key : Key) → is_branch key ≡ false → may (Get key)) (puts : (key : Key) (bytes : List ℕ) (why : Why) → ((base : Id12) → LeasesAlone base key bytes) → may (PutNew key bytes why)) where
+module _ (may : Op → Type 0) (gets : (key : Key) → is_branch key ≡ false → may (Get key)) (puts : (key : Key) (bytes : List ℕ) (why : Why) → ((base : Id12) → IsLeaseOf base key bytes) → may (PutNew key bytes why)) where
   abbrev Goes : {A : Type 0} → (A → Type 0) → Program A → Type 0
   Goes Q p = Within may (By Q) p
 
@@ -142,7 +142,7 @@ module _ (may : Op → Type 0) (gets : (key : Key) → is_branch key ≡ false �
       then-goes {A = List ℕ} Anything Anything (object_program want id offset size) (λ bytes. Done (Ok (Bytes bytes))) (asks-goes (Get (Chunk_key id)) (object_told want id offset size) (gets (Chunk_key id) refl) (object-tells want id offset size))
       (λ bytes q. done-goes Anything (Ok (Bytes bytes)) tt)
 
-  found-goes : (r : Result (List ℕ) Refusal) → By {A = List ℕ} Anything r → Goes {A = Value} Anything (found r)
+  found-goes : (r : Result (List ℕ) Refusal) → By {A = List ℕ} Anything r → Goes {A = Value} Anything (found_bytes r)
   found-goes (Ok bytes) q = done-goes Anything (Ok (Bytes bytes)) tt
   found-goes (Err why) q = done-goes Anything (Err why) q
 
@@ -195,7 +195,7 @@ module _ (may : Op → Type 0) (gets : (key : Key) → is_branch key ≡ false �
       (λ chunk q. chunks-goes s r chunk.1 (with_value r index chunk.0 numbers) met)
 
   box-goes : (s : SessionState) (r : Reads) (count : Result ℕ Refusal) → box_count r.array r.from r.to ≡ count → Goes AnyNumbers (read_box s r count)
-  box-goes s r (Err why) e = let is = no_box r.array r.from r.to why e in done-goes AnyNumbers (Err why) (subst TellsOfChunks (sym is.is) tt)
+  box-goes s r (Err why) e = let is = refused_box r.array r.from r.to why e in done-goes AnyNumbers (Err why) (subst TellsOfChunks (sym is.is) tt)
   box-goes s r (Ok count) e = chunks-goes s r None (replicate count r.array.fill) (chunks_met r.array.chunks r.from r.to)
 
   array-goes : (s : SessionState) (path from to : List ℕ) (found : Result (Id8 × ArrayView) Refusal) → array_at s path ≡ found → Goes AnyNumbers (read_array s path from to found)
@@ -261,7 +261,7 @@ module _ (may : Op → Type 0) (gets : (key : Key) → is_branch key ≡ false �
   put-box-goes s path from to numbers =
       box_cases s path from to numbers (λ p. Goes (IsSame s) p) (λ w. done-goes (IsSame s) (Err R.ReadOnly) tt)
       (λ why e. let is = no_array (get (nodes_seen s) path) why e in done-goes (IsSame s) (Err why) (subst TellsOfChunks (sym is.is) tt))
-      (λ id array e why c. let is = no_box array from to why c in done-goes (IsSame s) (Err why) (subst TellsOfChunks (sym is.is) tt))
+      (λ id array e why c. let is = refused_box array from to why c in done-goes (IsSame s) (Err why) (subst TellsOfChunks (sym is.is) tt))
       (λ id array e count c why f. done-goes (IsSame s) (Err why) (numbers-tell array.kind count numbers why f))
       (λ w id array e count c f. write-goes s s (reads_of_box path from to id array) numbers s (record { base = refl; origin = refl }) None (chunks_met array.chunks from to))
 
@@ -285,7 +285,7 @@ MovesNone op = moves_branch op ≡ false
 pub none-gets : (key : Key) → is_branch key ≡ false → MovesNone (Get key)
 none-gets key e = refl
 
-pub none-puts : (key : Key) (bytes : List ℕ) (why : Why) → ((base : Id12) → LeasesAlone base key bytes) → MovesNone (PutNew key bytes why)
+pub none-puts : (key : Key) (bytes : List ℕ) (why : Why) → ((base : Id12) → IsLeaseOf base key bytes) → MovesNone (PutNew key bytes why)
 none-puts key bytes why leases = refl
 
 -- so what stays so wherever memory may be wanting is so of each answer
@@ -316,15 +316,3 @@ WasWritten-append client s path from to numbers t start journal more g w = recor
   set = AreSet-append client path start w.chunks s t journal more g w.set;
   tree = Surely-append (λ puts. KeepsFrozen s.held s.rows → IsWellFormed (overlay puts s) → IsTreeWith path w.array from to numbers (overlay puts s) (overlay puts t)) journal more g w.tree;
 }
-
--- what a refusal tells speaks of no journal
-pub no-cells-others : (s : SessionState) (path from to : List ℕ) (why : Refusal) (journal other : List Event) → RegionTells s path from to (Err why) journal → RegionTells s path from to (Err why) other
-no-cells-others s path from to (R.Edit fault) journal other t = t
-no-cells-others s path from to (R.Region fault) journal other t = t
-no-cells-others s path from to _ journal other t = tt
-
-pub no-put-others : (client : ℕ) (s : SessionState) (path from to : List ℕ) (numbers : List ℤ) (start : List Event) (why : Refusal) (journal other : List Event) → RegionSetTells client s path from to numbers start (Err why) journal → RegionSetTells client s path from to numbers start (Err why) other
-no-put-others client s path from to numbers start R.ReadOnly journal other t = t
-no-put-others client s path from to numbers start (R.Edit fault) journal other t = t
-no-put-others client s path from to numbers start (R.Region fault) journal other t = t
-no-put-others client s path from to numbers start _ journal other t = tt

@@ -8,7 +8,7 @@ use Rattle.ice_ids.specs.Drawing.{drawn12, after12}
 use Rattle.flat_tables.specs.declared.header.Kind.TheVariants as kinds
 use Rattle.zarr_tree.specs.declared.edit.EditFault.{EditFault}
 use Rattle.zarr_tree.specs.declared.edit.EditFault.TheVariants as E
-use Rattle.zarr_tree.specs.Held.{Entry, touched, entry_in}
+use Rattle.zarr_tree.specs.Held.{HeldEntry, touched, entry_in}
 use Rattle.zarr_tree.specs.Touched.{is_untouched}
 use Rattle.zarr_changes.specs.declared.chunks.ChangedArray.{ChangedArray}
 use Rattle.zarr_changes.specs.declared.chunks.ChunkAt.{ChunkAt}
@@ -111,10 +111,10 @@ write-calm : (w : Written) (a : ChangedArray) (refs : Option ArrayRefs) → Ends
 write-calm w a None = λ why e. absurd (cc)
 write-calm w a (Some array) = either (nat_lt refs_limit (length array.refs)) _ _ (ends-refused (R.TooLarge kinds.Manifest) refl) (manifest-calm w a array (drawn12 w.ids))
 
-array-calm : (rows : List NodeRow) (entries : List (Entry Place)) (w : Written) (a : ChangedArray) → EndsCalmly (array_program rows entries w a)
+array-calm : (rows : List NodeRow) (entries : List (HeldEntry Place)) (w : Written) (a : ChangedArray) → EndsCalmly (array_program rows entries w a)
 array-calm rows entries w a = ends-behind (old_program (own_manifests rows a.path a.node) []) _ (old-calm (own_manifests rows a.path a.node) []) (λ old. write-calm w a (merged_array a.rank a.node old (chunks_of entries a.node)))
 
-arrays-calm : (rows : List NodeRow) (entries : List (Entry Place)) (arrays : List ChangedArray) (w : Written) → EndsCalmly (arrays_program rows entries arrays w)
+arrays-calm : (rows : List NodeRow) (entries : List (HeldEntry Place)) (arrays : List ChangedArray) (w : Written) → EndsCalmly (arrays_program rows entries arrays w)
 unfolding arrays_program
 arrays-calm rows entries [] w = λ why e. absurd (cc)
 arrays-calm rows entries (a ∷ more) w = ends-behind (array_program rows entries w a) _ (array-calm rows entries w a) (λ v. arrays-calm rows entries more v)

@@ -1,5 +1,5 @@
 -- A check commits nothing.
-use Rattle.std.proofs.Common.{◌≡◌, refl, sym, ◌∙◌, true, ℕ, List, [], ◌∷◌, ◌++◌}
+use Rattle.std.proofs.Common.{refl, sym, ◌∙◌, ℕ, List, [], ◌∷◌, ◌++◌}
 use Rattle.std.proofs.lemmas.Bool.{false≢true}
 use Rattle.object_store.specs.declared.events.Op.{Op}
 use Rattle.object_store.specs.declared.events.Op.TheVariants.{Get, PutNew, PutOver, Remove, RemoveAt, List as ListPart}
@@ -10,7 +10,6 @@ use Rattle.repo_check.specs.Exact.{IsRead}
 use Rattle.repo_check.proofs.Going.{Goes}
 use Rattle.repo_check.proofs.Playing.{goes-play}
 use Rattle.play_check.specs.Playing.{outcome_of, check_task}
-use Rattle.play_tasks.specs.Played.{is_commit}
 use Rattle.play_tasks.proofs.Singly.{Once, NoCommit, as-once}
 
 read-none : (op : Op) → IsRead op → NoCommit op

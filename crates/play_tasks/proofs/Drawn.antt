@@ -26,7 +26,7 @@ use Rattle.script_calls.specs.declared.calls.EditCall.TheVariants as edit
 use Rattle.script_calls.specs.declared.calls.ReadCall.{ReadCall}
 use Rattle.script_calls.specs.declared.calls.ReadCall.TheVariants as read
 use Rattle.play_outcome.specs.declared.outcome.Shown.{Shown}
-use Rattle.play_tasks.specs.Lines.{Deed, Goes, Sets, Reads, Puts, Gathers, Leases, Commits, cells_shown, chunk_key_shown, deed, edit_deed, edited, key_get_deed, key_set_deed, key_shown, lease_shown, meta_shown, node_shown, nodes_shown, read_by, read_deed, silent, still, value_shown}
+use Rattle.play_tasks.specs.Lines.{LineDeed, Goes, Sets, Reads, Puts, Gathers, Leases, Commits, deed, edit_deed, edits_to, key_get_deed, key_set_deed, key_shown, lease_shown, meta_shown, node_shown, nodes_shown, read_deed, silent, still, value_shown}
 use Rattle.play_tasks.specs.Solving.{DidPlay}
 use Rattle.play_tasks.specs.inside.Releasing.{lease_in}
 use Rattle.play_tasks.proofs.Released.{IsDrawnLease}
@@ -40,7 +40,7 @@ AreOther (Ok went) = All IsOther went.0
 AreOther (Err why) = Unit {0}
 
 -- what a line shows that does this is no lease; or it is the lease of that line
-abbrev ShowsWell : ℕ → Deed → Type 0
+abbrev ShowsWell : ℕ → LineDeed → Type 0
 ShowsWell line (Goes went) = AreOther went
 ShowsWell line (Sets path index bytes) = Unit {0}
 ShowsWell line (Reads path index show) = (value : Value) → IsOther (show value)
@@ -99,7 +99,7 @@ edit-well line (edit.Set path index bytes) s = tt
 edit-well line (edit.Fill path index byte) s = tt
 edit-well line (edit.Put place numbers) s = tt
 edit-well line (edit.KeySet key bytes) s = key-set-well line bytes (key_of key) s
-edit-well line x s = silent-other (edited x s)
+edit-well line x s = silent-other (edits_to x s)
 
 read-well : (line : ℕ) (x : ReadCall) (s : SessionState) → ShowsWell line (read_deed line x s)
 read-well line (read.List path) s = still-other s (nodes_shown line (listed s path)) (nodes-told line (listed s path))
@@ -137,7 +137,7 @@ module _ (ids : AnyIds) where
   pub deed-drawn : (client : ℕ) (line : ℕ) (x : Call) (s : SessionState) (start : List Event) (shown : List Shown) (t : SessionState) (journal : List Event) → IsLater ids s.ids → DidPlay client (deed line x s) s start shown t journal → All (IsDrawnLease ids) shown
   deed-drawn client line x s start shown t journal later did = by_deed (deed line x s) (shows-well line x s) did
     where
-      by_deed : (d : Deed) → ShowsWell line d → DidPlay client d s start shown t journal → All (IsDrawnLease ids) shown
+      by_deed : (d : LineDeed) → ShowsWell line d → DidPlay client d s start shown t journal → All (IsDrawnLease ids) shown
       by_deed (Goes went) well p = others-drawn shown (subst AreOther p well)
       by_deed (Sets path index bytes) well p = subst (All (IsDrawnLease ids)) (sym p.0) (All-nil (IsDrawnLease ids))
       by_deed (Reads path index show) well p = subst (All (IsDrawnLease ids)) (sym p.2) (others-drawn (show p.1 ∷ []) (one-other (show p.1) (well p.1)))

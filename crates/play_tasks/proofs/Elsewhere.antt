@@ -1,5 +1,5 @@
 -- Calls on refs, collections and expiries commit nothing.
-use Rattle.std.proofs.Common.{◌≡◌, ◌⊎◌, inl, inr, refl, sym, ap, ◌∙◌, ◌&&◌, cond, Bool, true, false, ℕ, zero, suc, List, [], ◌∷◌, ◌++◌, Option, None, Some, Result, Ok, Err}
+use Rattle.std.proofs.Common.{inl, inr, refl, sym, ap, ◌∙◌, ◌&&◌, cond, Bool, true, false, ℕ, zero, suc, List, [], ◌∷◌, ◌++◌, Option, None, Some, Result, Ok, Err}
 use Rattle.std.specs.Prelude.{IfOk}
 use Rattle.std.proofs.lemmas.Bool.{false≢true}
 use Rattle.ice_ids.specs.declared.Id12.{Id12}
@@ -34,7 +34,7 @@ use Rattle.cleanup_reports.specs.declared.cases.RefCase.{RefCase}
 use Rattle.refs_admin.specs.Targets.{target_program}
 use Rattle.refs_admin.specs.Branches.{branch_new_program, branch_reset_program, branch_drop_program}
 use Rattle.refs_admin.specs.Tags.{after_tag, put_tag, tag_target_program, tag_new_program, tag_drop_program}
-use Rattle.refs_admin.specs.Logs.{log_program}
+use Rattle.refs_admin.specs.LogReading.{chain_log_program}
 use Rattle.chunk_gc.specs.declared.standing.Collected.{Collected}
 use Rattle.chunk_gc.specs.Told.{first_told, listed_told, ref_got, snapshot_got, manifest_got}
 use Rattle.chunk_gc.specs.Programs.{Work, Answer, no_work, get_refs, with_ref, with_lease, get_files, with_file, leaving_files, with_snapshot, leaving_snapshots, mark_got, mark_last, mark_next, mark, mark_leased, begin_leased, sweeping, told_doomed, list_chunks, list_manifests, list_logs, list_snapshots, marking, list_leases, list_tags, mark_program}
@@ -149,7 +149,7 @@ ref-once line (ref.Reset name at) next g = quiet-once (branch_reset_program name
 ref-once line (ref.Unbranch name) next g = quiet-once (branch_drop_program name) (λ answer. next (unseen answer)) (ends-quiet (IsRemoval name) (removal-none name) (branch_drop_program name) (drop-ends name)) (λ r. g (unseen r))
 ref-once line (ref.Tag name at) next g = quiet-once (tag_new_program name at) (λ answer. next (unseen answer)) (tag-quiet name at) (λ r. g (unseen r))
 ref-once line (ref.Untag name) next g = quiet-once (tag_drop_program name) (λ answer. next (unseen answer)) (ends-quiet (IsBurying name) (bury-none name) (tag_drop_program name) (bury-ends name)) (λ r. g (unseen r))
-ref-once line (ref.Log at) next g = quiet-once (log_program at) (λ answer. next (logged line answer)) (gets-quiet (log_program at) (log-gets at)) (λ r. g (logged line r))
+ref-once line (ref.Log at) next g = quiet-once (chain_log_program at) (λ answer. next (logged line answer)) (gets-quiet (chain_log_program at) (log-gets at)) (λ r. g (logged line r))
 
 after_ref-once : (line : ℕ) (shown : List Shown) (rest : Rest) → ((more : List Shown) → Once (rest more)) → (r : Result (List Shown) Refusal) → Once (after_ref line shown rest r)
 unfolding Once

@@ -36,10 +36,10 @@ use Rattle.leases.specs.Laws.{LeaseLaw}
 use Rattle.std.specs.Prelude.{All}
 use Rattle.std.proofs.lemmas.List.Elements.{All-nil, All-append}
 use Rattle.play_tasks.proofs.Released.{IsDrawnLease}
-use Rattle.play_tasks.specs.Lines.{Deed, Goes, Sets, Reads, Puts, Gathers, Leases, Commits, deed}
+use Rattle.play_tasks.specs.Lines.{LineDeed, Goes, Sets, Reads, Puts, Gathers, Leases, Commits, deed}
 use Rattle.play_outcome.specs.Playing.{ended}
 use Rattle.play_tasks.specs.Solving.{DidPlay, PlaysAll, CameToCommit}
-use Rattle.play_tasks.specs.Telling.{Refuses, EndsAt, IsQuiet}
+use Rattle.play_tasks.specs.Telling.{Refuses, EndsAt, IsSilent}
 use Rattle.play_tasks.proofs.Boxing.{AreCells-append, WasWritten-append}
 use Rattle.play_tasks.proofs.Carrying.{Minds, Keeps-minds, careful-more}
 
@@ -65,7 +65,7 @@ pub record Laws : Type 0 where
   pub check : CheckTaskLaw
 
 -- ---- what was told of a line stays so, whatever good events come
-pub DidPlay-append : (client : ℕ) (d : Deed) (s : SessionState) (start : List Event) (shown : List Shown) (t : SessionState) (journal more : List Event) → Each IsGood journal more → DidPlay client d s start shown t journal → DidPlay client d s start shown t (journal ++ more)
+pub DidPlay-append : (client : ℕ) (d : LineDeed) (s : SessionState) (start : List Event) (shown : List Shown) (t : SessionState) (journal more : List Event) → Each IsGood journal more → DidPlay client d s start shown t journal → DidPlay client d s start shown t (journal ++ more)
 DidPlay-append client (Goes went) s start shown t journal more g x = x
 DidPlay-append client (Sets path index bytes) s start shown t journal more g x = (x.0, WasSet-append client s path index bytes start journal more t x.1)
 DidPlay-append client (Reads path index show) s start shown t journal more g x = (x.0, x.1, x.2, IsChunk-append s path index x.1 journal more g x.3)
@@ -182,7 +182,7 @@ module _ (by : Caller) (ids : AnyIds) (access : Access) (mine : Sessions) (start
   pub ends-well : (ls : List Line) (s : SessionState) (shown : List Shown) (end : End) (journal : List Event) → EndsAt by.number access ls s start [] end journal → GoesWell ls s shown (ended shown end) journal
   ends-well ls s shown end journal e = subst (λ (x : List Shown). GoesWell ls s shown (ended x end) journal) (append-nil shown) (ends-showing ls s shown [] end journal (All-nil (IsDrawnLease ids)) e)
 
-  pub refused-well : (l : Line) (ls : List Line) (s : SessionState) (shown : List Shown) (why : Refusal) (journal : List Event) → Refuses by.number (deed l.number l.call s) s start [] why journal → IsQuiet (deed l.number l.call s) [] → GoesWell (l ∷ ls) s shown (ended shown (Refused l.number why)) journal
+  pub refused-well : (l : Line) (ls : List Line) (s : SessionState) (shown : List Shown) (why : Refusal) (journal : List Event) → Refuses by.number (deed l.number l.call s) s start [] why journal → IsSilent (deed l.number l.call s) [] → GoesWell (l ∷ ls) s shown (ended shown (Refused l.number why)) journal
   refused-well l ls s shown why journal r quiet = ends-well (l ∷ ls) s shown (Refused l.number why) journal (inl (record { why = why; refuses = r; quiet = quiet; end_is = refl }))
 
   pub starved-well : (l : Line) (ls : List Line) (s : SessionState) (shown : List Shown) (journal : List Event) → Nothing journal → GoesWell (l ∷ ls) s shown (ended shown (Refused l.number NoMemory)) journal

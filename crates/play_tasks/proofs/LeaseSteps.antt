@@ -1,5 +1,5 @@
 -- A line that leases its session's base: how it begins, and what it tells where memory is wanting.
-use Rattle.std.proofs.Common.{◌≡◌, ◌∙◌, ◌<◌, ◌≤◌, ◌+◌, inl, inr, refl, sym, ap, subst, arith, Bool, true, false, ℕ, List, [], ◌∷◌, ◌++◌, drop}
+use Rattle.std.proofs.Common.{◌≡◌, ◌∙◌, ◌<◌, ◌≤◌, inl, inr, refl, sym, ap, subst, arith, Bool, true, false, ℕ, List, [], ◌∷◌, ◌++◌, drop}
 use Rattle.std.specs.Prelude.{◌&&◌, nat_lt, vec_len, vec_capacity, Option, Some, None, Result, Ok, Err}
 use Rattle.std.proofs.lemmas.Bool.{false≢true}
 use Rattle.std.proofs.lemmas.Bool.Decides.{Decides-ltb}

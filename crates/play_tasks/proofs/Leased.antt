@@ -1,6 +1,6 @@
 -- A lease in the middle of a task's lines: its operations are minded, and what its session knows stays so.
 use Rattle.std.proofs.Common.{◌≡◌, ◌∙◌, ℕ, List, ◌++◌, ◌∷◌, [], length, refl, sym, ap, subst}
-use Rattle.std.specs.Prelude.{Option, Some, None, Result, Ok, Err}
+use Rattle.std.specs.Prelude.{Some}
 use Rattle.ice_ids.specs.declared.Id12.{Id12}
 use Rattle.ice_ids.specs.declared.drawing.AnyIds.{AnyIds}
 use Rattle.ice_ids.specs.Drawing.{after12, drawn12}
@@ -15,19 +15,18 @@ use Rattle.object_store.specs.declared.events.Event.{Event}
 use Rattle.object_store.specs.Machine.{Slot, found, slot_of}
 use Rattle.object_store.proofs.Slots.{effect-cases, slot-append_one}
 use Rattle.store_api.specs.Callers.{Caller, Makes, own_event}
-use Rattle.store_api.specs.Plays.{Play, PlayKeeps, PlayLeads}
+use Rattle.store_api.specs.Plays.{PlayKeeps, PlayLeads}
 use Rattle.store_api.specs.Telling.{ChangedNothing}
 use Rattle.store_api.proofs.Happening.{ChangedNothing-makes, got-nothing}
 use Rattle.session.specs.Sessions.{SessionState}
 use Rattle.session.specs.Sources.{IsLater}
 use Rattle.session.specs.Chunks.{after_draw}
-use Rattle.leases.specs.declared.lease.Leased.{Leased}
 use Rattle.leases.specs.declared.witness.Witness.{Witness}
-use Rattle.leases.specs.Plays.{confirm_play, lease_play, witness_key}
+use Rattle.leases.specs.Plays.{lease_play, witness_key}
 use Rattle.commit_path.specs.Owed.{Sessions}
 use Rattle.commit_path.specs.Opened.{IsOpened}
 use Rattle.commit_path.specs.Single.{HasPutNone}
-use Rattle.commit_path.specs.Own.{HasPutDrawn, Owns, OwnsChunks}
+use Rattle.commit_path.specs.Own.{Owns, OwnsChunks}
 use Rattle.commit_path.proofs.Sources.{later-drawn12, later-later}
 use Rattle.commit_path.proofs.Singling.{HasPutNone-makes}
 use Rattle.commit_path.proofs.OwnPuts.{HasPutDrawn-later, HasPutDrawn-makes, OwnsChunks-append, drawn-now, not-put, one-object}

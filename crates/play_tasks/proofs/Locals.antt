@@ -7,7 +7,7 @@ use Rattle.std.specs.Prelude.{not}
 use Rattle.ice_ids.specs.declared.Id8.{Id8}
 use Rattle.ice_ids.specs.Drawing.{drawn8}
 use Rattle.zarr_meta.specs.declared.faults.MetaFault.{MetaFault}
-use Rattle.zarr_meta.specs.declared.views.View.{View}
+use Rattle.zarr_meta.specs.declared.views.MetaView.{MetaView}
 use Rattle.zarr_meta.specs.Meta.{meta_of}
 use Rattle.zarr_tree.specs.declared.edit.EditFault.{EditFault}
 use Rattle.zarr_changes.specs.Sets.{add_refusal, text_refusal, drop_refusal, unset_refusal}
@@ -60,7 +60,7 @@ by_id8 : (s : SessionState) (p text : List ℕ) (o : Option Id8) → IsLocal (dr
 by_id8 s p text None why e = let x : R.IdsSpent ≡ why = cc in sym (ap is_fault x)
 by_id8 s p text (Some id) why e = absurd (cc)
 
-pub added_local : (fault : Result View MetaFault → Option MetaFault) (s : SessionState) (p text : List ℕ) → IsLocal (added fault s p text)
+pub added_local : (fault : Result MetaView MetaFault → Option MetaFault) (s : SessionState) (p text : List ℕ) → IsLocal (added fault s p text)
 unfolding added
 added_local fault s p text = by_writes (writes s) _ (by_text (fault (meta_of text)) _ (by_edit (add_refusal (nodes_seen s) p) _ (by_id8 s p text (drawn8 s.ids))))
 
@@ -94,7 +94,7 @@ leaves-local expected s t (Ok done) l a = refl
 leaves-local expected s t (Err R.NoMemory) l a = refl
 leaves-local expected s t (Err why) l a = ap not (l why a.0)
 
-pub added-local : (fault : Result View MetaFault → Option MetaFault) (s t : SessionState) (p text : List ℕ) (r : Result Id8 Refusal) → Adds (added fault s p text) s r t → is_local (without_id r) ≡ true
+pub added-local : (fault : Result MetaView MetaFault → Option MetaFault) (s t : SessionState) (p text : List ℕ) (r : Result Id8 Refusal) → Adds (added fault s p text) s r t → is_local (without_id r) ≡ true
 added-local fault s t p text r a = adds-local (added fault s p text) s t r (added_local fault s p text) a
 
 pub set-local : (s t : SessionState) (p text : List ℕ) (r : Result (Unit {0}) Refusal) → Leaves (meta_set s p text) s r t → is_local r ≡ true

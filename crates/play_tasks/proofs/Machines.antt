@@ -15,7 +15,7 @@ use Rattle.array_region.specs.Getting.{region_rest, region_session}
 use Rattle.array_region.specs.Filling.{region_set_rest}
 use Rattle.session.specs.declared.chunks.Value.{Value}
 use Rattle.session.specs.Sessions.{SessionState}
-use Rattle.session.specs.Setting.{set_rest, SetRefused}
+use Rattle.session.specs.Setting.{set_rest}
 use Rattle.session.specs.Getting.{get_rest, get_session, GetRefused}
 use Rattle.conflicts.specs.declared.solving.Policy.{Policy}
 use Rattle.ice_ids.specs.declared.drawing.AnyIds.{AnyIds}
@@ -140,10 +140,6 @@ rebase-answers line shown again (UpToDate t) s p is c = subst (λ (x : SessionSt
 pub rebase-calm : (why : Refusal) → MayRefuseStart why → is_fault why ≡ false
 rebase-calm R.ReadOnly m = refl
 rebase-calm _ m = absurd m
-
-pub set-why : (p : Program SessionState) (s back : SessionState) (why : Refusal) → SetRefused p s back why → is_no_memory why ≡ false → p ≡ Done (Err why)
-set-why p s back R.NoMemory c e = absurd (cc)
-set-why p s back why c e = c.0
 
 pub get-why : (p : Program Value) (s back : SessionState) (why : Refusal) → GetRefused p s back why → is_no_memory why ≡ false → p ≡ Done (Err why)
 get-why p s back R.NoMemory c e = absurd (cc)

@@ -67,9 +67,9 @@ use Rattle.play_tasks.proofs.Releases.{each-release, release-cases}
 use Rattle.play_outcome.specs.declared.outcome.Outcome.{Outcome}
 use Rattle.play_outcome.specs.Playing.{refused}
 use Rattle.play_expire.specs.Playing.{terms_of}
-use Rattle.play_tasks.specs.Lines.{Deed, Goes, Sets, Reads, Puts, Gathers, Leases, Commits, deed, silent}
+use Rattle.play_tasks.specs.Lines.{LineDeed, Goes, Sets, Reads, Puts, Gathers, Leases, Commits, deed, silent}
 use Rattle.play_tasks.specs.Playing.{after_settling, doubt_of, doubt_play, after_commit, after_rebase, commit_play, tries_of, policy_of, after_line, shown_by, play_deed, play_lines, asked_by, after_open, session_play, headed_play, task_play, after_confirm, after_lease, lease_by, placed_shown, left_by, release_from, release_all}
-use Rattle.play_tasks.specs.Bases.{GetsWalked, LeasesAlone}
+use Rattle.play_tasks.specs.Bases.{GetsWalked, IsLeaseOf}
 use Rattle.play_tasks.specs.Played.{PlaysTo, CommitsOnce, is_moved}
 use Rattle.play_tasks.proofs.Doubting.{which, no-doubt, settle-within, walked-get}
 use Rattle.play_tasks.proofs.Elsewhere.{refs-once, collect-once, expire-once}
@@ -82,7 +82,7 @@ use Rattle.play_tasks.proofs.Within.{Within, Climbs, IsOnHead, IsSame, set-withi
 none-gets : (key : Key) → is_branch key ≡ false → NoCommit (Get key)
 none-gets key e = refl
 
-none-puts : (key : Key) (bytes : List ℕ) (why : Why) → ((base : Id12) → LeasesAlone base key bytes) → NoCommit (PutNew key bytes why)
+none-puts : (key : Key) (bytes : List ℕ) (why : Why) → ((base : Id12) → IsLeaseOf base key bytes) → NoCommit (PutNew key bytes why)
 none-puts key bytes why leases = refl
 
 -- ---- an opening
@@ -253,7 +253,7 @@ release-gets : (done left : List Shown) (end : End) → OnlyGets (release_from d
 unfolding OnlyGets
 release-gets done left end =
     each-release end (λ d l p. OnlyGets p) (λ d. tt)
-    (λ d line id before more rest. followed-gets (λ result. release_from (d ++ Lease line id (left_by result) ∷ []) more end) rest (release_play id) (refl, tt, λ reply. release-cases OnlyGets tt tt reply))
+    (λ d line id before more rest. followed-gets (λ result. release_from (d ++ Lease line id (left_by result) ∷ []) more end) rest (release_play id) (inr (id, refl), tt, λ reply. release-cases OnlyGets tt tt reply))
     (λ d s more none rest. rest) done left
 
 -- ---- lines
@@ -283,7 +283,7 @@ module _ (line : ℕ) (shown : List Shown) (rest : SessionState → List Shown �
       lease-cases (λ (r : Result (Play Leased) Refusal). Once (lease_by show line shown s rest r)) s
       (λ id w d e. nothing-once (after_lease show line shown (after_draw s) rest) (leased-once (after_draw s) show) (lease_play id s.base w) (lease-quiet id s.base w)) (λ why e. ends-once line shown why)
 
-  deed-once : (access : Access) (s : SessionState) (d : Deed) → Once (play_deed access line shown s d rest)
+  deed-once : (access : Access) (s : SessionState) (d : LineDeed) → Once (play_deed access line shown s d rest)
   deed-once access s (Goes (Ok went)) = g went.1 (shown ++ went.0)
   deed-once access s (Goes (Err why)) = ends-once line shown why
   deed-once access s (Sets path index bytes) =

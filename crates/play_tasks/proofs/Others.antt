@@ -1,5 +1,5 @@
 -- What an outcome tells stays so, whatever good events others make.
-use Rattle.std.proofs.Common.{ℕ, sym, ◌∙◌, ap, subst, List, ◌++◌, append_assoc}
+use Rattle.std.proofs.Common.{sym, ◌∙◌, ap, subst, List, ◌++◌, append_assoc}
 use Rattle.ice_ids.specs.declared.drawing.AnyIds.{AnyIds}
 use Rattle.object_store.specs.declared.events.Event.{Event}
 use Rattle.store_api.specs.Journal.{Each}

@@ -1,6 +1,6 @@
 -- The steps of a session's worker: of its session, and of the releases behind that.
 use Rattle.std.proofs.Common.{◌≡◌, ◌∙◌, ◌<◌, ◌+◌, ◌⊎◌, inl, inr, refl, sym, ap, subst, arith, Bool, true, false, ℕ, List, [], ◌∷◌, ◌++◌, length, take, drop, set}
-use Rattle.std.specs.Prelude.{◌||◌, ◌&&◌, nat_lt, vec_len, vec_capacity, Option, Some, None, Result, Ok, Err}
+use Rattle.std.specs.Prelude.{◌||◌, nat_lt, vec_len, vec_capacity, Option, Some, None, Result, Ok, Err}
 use Rattle.std.specs.Result.{result_err}
 use Rattle.std.proofs.lemmas.List.{take_more_set, drop-set-lt}
 use Rattle.std.proofs.lemmas.List.Folds.{list_any-append}

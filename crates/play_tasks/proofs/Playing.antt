@@ -24,7 +24,7 @@ use Rattle.session.specs.declared.chunks.Value.{Value}
 use Rattle.session.specs.Sessions.{SessionState}
 use Rattle.session.specs.Sources.{IsLater}
 use Rattle.session.specs.Opening.{open_program}
-use Rattle.session.specs.Chunks.{after_draw, set_program, get_program}
+use Rattle.session.specs.Chunks.{after_draw, set_program, get_program, filled}
 use Rattle.commit_path.specs.Owed.{Sessions, IsCareful}
 use Rattle.store_api.specs.Telling.{ChangedNothing}
 use Rattle.commit_path.specs.Own.{HasPutDrawn, OwesOwn, Owns}
@@ -60,10 +60,10 @@ use Rattle.play_script.specs.Well.{IsWellEdit, IsWellCall, IsWellLine, IsWellTas
 use Rattle.play_outcome.specs.declared.outcome.Shown.{Shown}
 use Rattle.play_outcome.specs.declared.outcome.End.TheVariants.{Done, Refused}
 use Rattle.play_outcome.specs.declared.outcome.Outcome.{Outcome}
-use Rattle.play_tasks.specs.Lines.{Deed, Goes, Sets, Reads, Puts, Gathers, Leases, Commits, deed, edit_deed, read_deed, key_set_deed, key_get_deed, lease_shown, silent, filled}
+use Rattle.play_tasks.specs.Lines.{LineDeed, Goes, Sets, Reads, Puts, Gathers, Leases, Commits, deed, edit_deed, read_deed, key_set_deed, key_get_deed, lease_shown, silent}
 use Rattle.play_outcome.specs.Playing.{ended}
 use Rattle.play_tasks.specs.Playing.{after_confirm, after_lease, lease_by, placed_shown, release_all, tries_of, policy_of, commit_play, play_deed, play_lines, after_line, after_open, shown_by, asked_by, session_play, headed_play, task_play}
-use Rattle.play_tasks.specs.Solving.{DidLease, DidPlay, PlaysAll, WasCarried, IsOfTask}
+use Rattle.play_tasks.specs.Solving.{DidLease, DidPlay, WasCarried, IsOfTask}
 use Rattle.play_refs.specs.Playing.{refs_play}
 use Rattle.play_refs.specs.Telling.{OwesRefs}
 use Rattle.chunk_gc.specs.Exact.{IsOwed}
@@ -77,7 +77,7 @@ use Rattle.play_tasks.proofs.Basing.{session-opens}
 use Rattle.play_tasks.proofs.Within.{IsSame}
 use Rattle.play_tasks.proofs.Boxing.{By, AnyNumbers, MovesNone, none-gets, none-puts, gather-goes, put-box-goes, within-leads, stays-leads}
 use Rattle.play_tasks.specs.Owing.{OwesBy, OwesOwnBy, IsDue, ComesBefore, BeforeChange}
-use Rattle.play_tasks.specs.Telling.{Refuses, RefusesLease, IsQuiet, SessionTells, WereReleased, TellsBy, TellsOutcome}
+use Rattle.play_tasks.specs.Telling.{Refuses, RefusesLease, IsSilent, SessionTells, WereReleased, TellsBy, TellsOutcome}
 use Rattle.leases.proofs.Following.{PlayKeeps-followed, PlayLeads-followed}
 use Rattle.repo_read.proofs.Own.{Since, Since-none}
 use Rattle.ice_ids.specs.Drawing.{drawn12}
@@ -174,7 +174,7 @@ module _ (L : Laws) (by : Caller) (ids : AnyIds) (access : Access) (body : List 
   abbrev Well : List Line → SessionState → List Shown → Play Outcome → List Event → Type 0
   Well ls s shown p journal = GoesWell by ids access Tried start ls s shown p journal
 
-  refused : (l : Line) (ls : List Line) (s : SessionState) (shown : List Shown) (why : Refusal) (journal : List Event) → Refuses by.number (deed l.number l.call s) s start [] why journal → IsQuiet (deed l.number l.call s) [] → Well (l ∷ ls) s shown (ended shown (Refused l.number why)) journal
+  refused : (l : Line) (ls : List Line) (s : SessionState) (shown : List Shown) (why : Refusal) (journal : List Event) → Refuses by.number (deed l.number l.call s) s start [] why journal → IsSilent (deed l.number l.call s) [] → Well (l ∷ ls) s shown (ended shown (Refused l.number why)) journal
   refused l ls s shown why journal r quiet = refused-well by ids access Tried start l ls s shown why journal r quiet
 
   starved : (l : Line) (ls : List Line) (s : SessionState) (shown : List Shown) (journal : List Event) → Nothing journal → Well (l ∷ ls) s shown (ended shown (Refused l.number NoMemory)) journal
@@ -210,10 +210,10 @@ module _ (L : Laws) (by : Caller) (ids : AnyIds) (access : Access) (body : List 
 
     set-answered : (answer : Result SessionState Refusal) (h : List Event) → At (l ∷ ls) s h × SetAnswers answer h → Well (l ∷ ls) s shown (after_line l.number shown (silent answer) (play_lines access ls)) h
     set-answered (Ok t) h q =
-        let did = subst (λ (d : Deed). DidPlay by.number d s start [] t h) (sym sets) (refl, q.1.0.0.0) in
+        let did = subst (λ (d : LineDeed). DidPlay by.number d s start [] t h) (sym sets) (refl, q.1.0.0.0) in
         went-well l ls s shown [] t h later did
         (go h q.1.0.0.1 q.1.1.0 t (shown ++ []) (record { opened = q.1.0.1.1; spelled = q.1.0.1.0; later = q.1.0.1.2; owned = q.1.1.1 }) (came-on by.number body opened start l ls s t [] h did q.0))
-    set-answered (Err why) h q = refused l ls s shown why h (subst (λ (d : Deed). Refuses by.number d s start [] why h) (sym sets) q.1.0.0) (subst (λ (d : Deed). IsQuiet d []) (sym sets) refl)
+    set-answered (Err why) h q = refused l ls s shown why h (subst (λ (d : LineDeed). Refuses by.number d s start [] why h) (sym sets) q.1.0.0) (subst (λ (d : LineDeed). IsSilent d []) (sym sets) refl)
 
     set-well : (journal : List Event) → list_all (λ n. nat_lt n 256) bytes ≡ true → IsReady ids by.number start s journal → Nothing journal → PutNone journal → At (l ∷ ls) s journal → Well (l ∷ ls) s shown (play_deed access l.number shown s (Sets path index bytes) (play_lines access ls)) journal
     set-well journal are ready c f came =
@@ -233,10 +233,10 @@ module _ (L : Laws) (by : Caller) (ids : AnyIds) (access : Access) (body : List 
 
     get-answered : (answer : Result Value Refusal) (h : List Event) → At (l ∷ ls) s h × GetAnswers answer h → Well (l ∷ ls) s shown (after_line l.number shown (shown_by s show answer) (play_lines access ls)) h
     get-answered (Ok value) h q =
-        let did = subst (λ (d : Deed). DidPlay by.number d s start (show value ∷ []) s h) (sym reads) (refl, value, refl, q.1.0.0.0) in
+        let did = subst (λ (d : LineDeed). DidPlay by.number d s start (show value ∷ []) s h) (sym reads) (refl, value, refl, q.1.0.0.0) in
         went-well l ls s shown (show value ∷ []) s h later did
         (go h q.1.0.0.1 q.1.1.0 s (shown ++ show value ∷ []) (record { opened = q.1.0.1; spelled = spelled; later = later; owned = q.1.1.1 }) (came-on by.number body opened start l ls s s (show value ∷ []) h did q.0))
-    get-answered (Err why) h q = refused l ls s shown why h (subst (λ (d : Deed). Refuses by.number d s start [] why h) (sym reads) q.1.0.0) (subst (λ (d : Deed). IsQuiet d []) (sym reads) refl)
+    get-answered (Err why) h q = refused l ls s shown why h (subst (λ (d : LineDeed). Refuses by.number d s start [] why h) (sym reads) q.1.0.0) (subst (λ (d : LineDeed). IsSilent d []) (sym reads) refl)
 
     get-well : (journal : List Event) → IsOpened s journal → Owns ids by.number s start journal → Nothing journal → PutNone journal → At (l ∷ ls) s journal → Well (l ∷ ls) s shown (play_deed access l.number shown s (Reads path index show) (play_lines access ls)) journal
     get-well journal ready owned c f came =
@@ -262,10 +262,10 @@ module _ (L : Laws) (by : Caller) (ids : AnyIds) (access : Access) (body : List 
 
     put-answered : (answer : Result SessionState Refusal) (h : List Event) → At (l ∷ ls) s h × PutAnswers answer h → Well (l ∷ ls) s shown (after_line l.number shown (silent answer) (play_lines access ls)) h
     put-answered (Ok t) h q =
-        let did = subst (λ (d : Deed). DidPlay by.number d s start [] t h) (sym puts) (refl, q.1.0.0.0) in
+        let did = subst (λ (d : LineDeed). DidPlay by.number d s start [] t h) (sym puts) (refl, q.1.0.0.0) in
         went-well l ls s shown [] t h later did
         (go h q.1.1.1.0 q.1.1.1.1.0 t (shown ++ []) (record { opened = q.1.0.1.1; spelled = q.1.0.1.0; later = q.1.0.1.2; owned = q.1.1.1.1.1 }) (came-on by.number body opened start l ls s t [] h did q.0))
-    put-answered (Err why) h q = refused l ls s shown why h (subst (λ (d : Deed). Refuses by.number d s start [] why h) (sym puts) (q.1.0.0, q.1.1.0, q.1.1.1.0)) (subst (λ (d : Deed). IsQuiet d []) (sym puts) refl)
+    put-answered (Err why) h q = refused l ls s shown why h (subst (λ (d : LineDeed). Refuses by.number d s start [] why h) (sym puts) (q.1.0.0, q.1.1.0, q.1.1.1.0)) (subst (λ (d : LineDeed). IsSilent d []) (sym puts) refl)
 
     put-well : (journal : List Event) → IsReady ids by.number start s journal → Nothing journal → PutNone journal → At (l ∷ ls) s journal → Well (l ∷ ls) s shown (play_deed access l.number shown s (Puts path from to numbers) (play_lines access ls)) journal
     put-well journal ready c f came =
@@ -298,10 +298,10 @@ module _ (L : Laws) (by : Caller) (ids : AnyIds) (access : Access) (body : List 
 
     gather-answered : (answer : Result (List ℤ) Refusal) (h : List Event) → Along h × GatherAnswers answer h → Well (l ∷ ls) s shown (after_line l.number shown (shown_by s show answer) (play_lines access ls)) h
     gather-answered (Ok numbers) h q =
-        let did = subst (λ (d : Deed). DidPlay by.number d s start (show numbers ∷ []) s h) (sym gathers) (refl, numbers, refl, q.1.0) in
+        let did = subst (λ (d : LineDeed). DidPlay by.number d s start (show numbers ∷ []) s h) (sym gathers) (refl, numbers, refl, q.1.0) in
         went-well l ls s shown (show numbers ∷ []) s h later did
         (go h q.1.1.1.0 q.1.1.1.1.0 s (shown ++ show numbers ∷ []) (record { opened = q.0.1; spelled = spelled; later = later; owned = q.1.1.1.1.1 }) (came-on by.number body opened start l ls s s (show numbers ∷ []) h did q.0.0))
-    gather-answered (Err why) h q = refused l ls s shown why h (subst (λ (d : Deed). Refuses by.number d s start [] why h) (sym gathers) (q.1.0, q.1.1.0, q.1.1.1.0)) (subst (λ (d : Deed). IsQuiet d []) (sym gathers) refl)
+    gather-answered (Err why) h q = refused l ls s shown why h (subst (λ (d : LineDeed). Refuses by.number d s start [] why h) (sym gathers) (q.1.0, q.1.1.0, q.1.1.1.0)) (subst (λ (d : LineDeed). IsSilent d []) (sym gathers) refl)
 
     gather-well : (journal : List Event) → IsOpened s journal → Owns ids by.number s start journal → Nothing journal → PutNone journal → At (l ∷ ls) s journal → Well (l ∷ ls) s shown (play_deed access l.number shown s (Gathers path from to show) (play_lines access ls)) journal
     gather-well journal ready owned c f came =
@@ -380,8 +380,8 @@ module _ (L : Laws) (by : Caller) (ids : AnyIds) (access : Access) (body : List 
           }) in
           ends-showing by ids access Tried start (l ∷ ls) s shown (placed_shown show placed) (Refused l.number why) h (placed-drawn placed (Err why) h t) (inl (record {
             why = why;
-            refuses = subst (λ (d : Deed). Refuses by.number d s start (placed_shown show placed) why h) (sym leases) (refuses, k);
-            quiet = subst (λ (d : Deed). IsQuiet d (placed_shown show placed)) (sym leases) tt;
+            refuses = subst (λ (d : LineDeed). Refuses by.number d s start (placed_shown show placed) why h) (sym leases) (refuses, k);
+            quiet = subst (λ (d : LineDeed). IsSilent d (placed_shown show placed)) (sym leases) tt;
             end_is = refl;
           }))
 
@@ -390,7 +390,7 @@ module _ (L : Laws) (by : Caller) (ids : AnyIds) (access : Access) (body : List 
       leased-well placed (Err why) h q = lease-refused placed why h q.1.1.0 q.1.1.1.nothing
       leased-well None (Ok done) h q = absurd q.1.1.0
       leased-well (Some i) (Ok done) h q =
-          let did = subst (λ (d : Deed). DidPlay by.number d s start (show i ∷ []) (after_draw s) h) (sym leases) (did-lease i h q.1.1.0 q.0) in
+          let did = subst (λ (d : LineDeed). DidPlay by.number d s start (show i ∷ []) (after_draw s) h) (sym leases) (did-lease i h q.1.1.0 q.0) in
           went-well l ls s shown (show i ∷ []) (after_draw s) h ready.later did
           (go h q.1.1.1.nothing q.1.1.1.put_none (after_draw s) (shown ++ show i ∷ []) (drew-ready ids by.number start s began h ready q.1.0.1 q.1.1.1.owns) (came-on by.number body opened start l ls s (after_draw s) (show i ∷ []) h did q.1.0.0))
 
@@ -410,7 +410,7 @@ module _ (L : Laws) (by : Caller) (ids : AnyIds) (access : Access) (body : List 
   lease-well l ls s shown show leases go journal ready c f came =
       lease-cases (λ (r : Result (Play Leased) Refusal). Well (l ∷ ls) s shown (lease_by show l.number shown s (play_lines access ls) r) journal) s
       (λ id w drawn named. begun-well l ls s shown show leases go journal ready c id w drawn named (came, ready.opened) (record { nothing = c; put_none = f; owns = drew-owns ids by.number s start journal ready.owned }))
-      (λ why e. refused l ls s shown why journal (subst (λ (d : Deed). Refuses by.number d s start [] why journal) (sym leases) (inl (e, refl), c)) (subst (λ (d : Deed). IsQuiet d []) (sym leases) tt))
+      (λ why e. refused l ls s shown why journal (subst (λ (d : LineDeed). Refuses by.number d s start [] why journal) (sym leases) (inl (e, refl), c)) (subst (λ (d : LineDeed). IsSilent d []) (sym leases) tt))
 
   -- ---- a line that commits
   commit-well : (l : Line) (ls : List Line) (s : SessionState) (shown : List Shown) (message : List ℕ) → deed l.number l.call s ≡ Commits message → (journal : List Event) → IsUtf8 message → IsReady ids by.number start s journal → Nothing journal → PutNone journal → At (l ∷ ls) s journal
@@ -429,10 +429,10 @@ module _ (L : Laws) (by : Caller) (ids : AnyIds) (access : Access) (body : List 
 
   -- ---- any line
   deed-well : (l : Line) (ls : List Line) (s : SessionState) (shown : List Shown) (journal : List Event) → IsWellCall l.call → IsReady ids by.number start s journal → Nothing journal → PutNone journal → At (l ∷ ls) s journal → AllGoWell ls
-      → (d : Deed) → deed l.number l.call s ≡ d → Well (l ∷ ls) s shown (play_deed access l.number shown s d (play_lines access ls)) journal
-  deed-well l ls s shown journal well ready c f came go (Goes (Err why)) e = refused l ls s shown why journal (subst (λ (d : Deed). Refuses by.number d s start [] why journal) (sym e) (refl, c)) (subst (λ (d : Deed). IsQuiet d []) (sym e) refl)
+      → (d : LineDeed) → deed l.number l.call s ≡ d → Well (l ∷ ls) s shown (play_deed access l.number shown s d (play_lines access ls)) journal
+  deed-well l ls s shown journal well ready c f came go (Goes (Err why)) e = refused l ls s shown why journal (subst (λ (d : LineDeed). Refuses by.number d s start [] why journal) (sym e) (refl, c)) (subst (λ (d : LineDeed). IsSilent d []) (sym e) refl)
   deed-well l ls s shown journal well ready c f came go (Goes (Ok went)) e =
-      let did = subst (λ (d : Deed). DidPlay by.number d s start went.0 went.1 journal) (sym e) refl in
+      let did = subst (λ (d : LineDeed). DidPlay by.number d s start went.0 went.1 journal) (sym e) refl in
       went-well l ls s shown went.0 went.1 journal ready.later did
       (go journal c f went.1 (shown ++ went.0) (deed-ready L.session L.owning ids by.number start l.number l.call s went journal well ready e) (came-on by.number body opened start l ls s went.1 went.0 journal did came))
   deed-well l ls s shown journal well ready c f came go (Sets path index bytes) e = set-well l ls s shown path index bytes e go ready.later journal (deed-bytes l.number l.call s path index bytes well e) ready c f came
@@ -562,7 +562,7 @@ module _ (L : Laws) (by : Caller) (ids : AnyIds) (task : Task) (start : List Eve
       let leads : PlayLeads Told by p start = PlayLeads-since (λ outcome h. SessionTells ids access task by.number start outcome h × All (IsDrawnLease ids) outcome.shown) by start p start (Since-none start) told.2 in (
         PlayKeeps-followed (Pays (Session access)) Told by p release_all start
             (PlayKeeps-own (λ h client op. minds h client op × opens h client op) (Pays (Session access)) by (λ h op c. (c.0.0.polite, (c.0.0.owes, (c.0.1, inl c.1)))) p start both) leads
-            (λ outcome h q. releases-keep (Pays (Session access)) by ids (λ j id drawn. (refl, ((drawn, refl), (tt, inr (id, refl))))) outcome.end [] outcome.shown q.1.1 h),
+            (λ outcome h q. releases-keep (Pays (Session access)) by ids (λ j id drawn. (refl, ((drawn, refl), (tt, inr (id, drawn, refl))))) outcome.end [] outcome.shown q.1.1 h),
         PlayKeeps-followed (λ h client op. ComesBefore (Session access) client start h op) Told by p release_all start told.1 leads
             (λ outcome h q. releases-keep (λ j client op. ComesBefore (Session access) client start j op) by ids (λ j id drawn. λ put. absurd put) outcome.end [] outcome.shown q.1.1 h),
         PlayLeads-followed (TellsBy (Session access) ids task by.number start) Told by p release_all start leads (λ outcome h q.

@@ -12,7 +12,7 @@ use Rattle.zarr_path.specs.declared.keys.ZarrKey.{ZarrKey}
 use Rattle.zarr_path.specs.declared.keys.ZarrKey.TheVariants as zarr
 use Rattle.zarr_path.specs.Keys.{key_of}
 use Rattle.zarr_meta.specs.declared.faults.MetaFault.{MetaFault}
-use Rattle.zarr_meta.specs.declared.views.View.{View}
+use Rattle.zarr_meta.specs.declared.views.MetaView.{MetaView}
 use Rattle.zarr_meta.specs.Meta.{meta_of}
 use Rattle.zarr_tree.specs.declared.edit.EditFault.{EditFault}
 use Rattle.zarr_changes.specs.Sets.{add_refusal, text_refusal, drop_refusal, unset_refusal}
@@ -69,7 +69,7 @@ by_id : (s : SessionState) (path text : List ℕ) (id : Option Id8) → IfOk (dr
 by_id s path text None = tt
 by_id s path text (Some id) = later-drawn8 s.ids
 
-added-later : (fault : Result View MetaFault → Option MetaFault) (s : SessionState) (path text : List ℕ) → IfOk (added fault s path text) (λ a. IsLater s.ids a.1.ids)
+added-later : (fault : Result MetaView MetaFault → Option MetaFault) (s : SessionState) (path text : List ℕ) → IfOk (added fault s path text) (λ a. IsLater s.ids a.1.ids)
 unfolding added
 added-later fault s path text = by_writes _ (writes s) _ (by_text _ (fault (meta_of text)) _ (by_edit _ (add_refusal (nodes_seen s) path) _ (by_id s path text (drawn8 s.ids))))
 
@@ -106,7 +106,7 @@ module _ (L : SessionLaw) (O : OwningLaw) (ids : AnyIds) (client : ℕ) (start :
   edit-ready : (s t : SessionState) (went : List Shown × SessionState) (journal : List Event) → IsReady ids client start s journal → IsLater s.ids t.ids → (IsSpelled t × IsOpened t journal) × Owns ids client t start journal → ([], t) ≡ went → IsReady ids client start went.1 journal
   edit-ready s t went journal ready later kept is = subst (λ (x : List Shown × SessionState). IsReady ids client start x.1 journal) is (record { opened = kept.0.1; spelled = kept.0.0; later = later-later ids s.ids t.ids ready.later later; owned = kept.1 })
 
-  add-ready : (fault : Result View MetaFault → Option MetaFault) → TellsFaults fault → (s : SessionState) (path text : List ℕ) (went : List Shown × SessionState) (journal : List Event) → IsWellPath path → IsReady ids client start s journal
+  add-ready : (fault : Result MetaView MetaFault → Option MetaFault) → TellsFaults fault → (s : SessionState) (path text : List ℕ) (went : List Shown × SessionState) (journal : List Event) → IsWellPath path → IsReady ids client start s journal
       → (r : Result (Id8 × SessionState) Refusal) → added fault s path text ≡ r → silent (session_of r) ≡ Ok went → IsReady ids client start went.1 journal
   add-ready fault tells s path text went journal well ready (Err why) e d = absurd cc
   add-ready fault tells s path text went journal well ready (Ok a) e d =

@@ -1,6 +1,6 @@
 -- What the releases of leases tell, and that they are owed.
-use Rattle.std.proofs.Common.{◌≡◌, ◌++◌, ◌∙◌, ℕ, List, [], ◌∷◌, append-nil, append_assoc, refl, sym, ap}
-use Rattle.std.specs.Prelude.{Option, Some, None, Result, Ok, Err, All}
+use Rattle.std.proofs.Common.{◌≡◌, ◌++◌, ◌∙◌, ℕ, List, [], ◌∷◌, append-nil, append_assoc, refl, sym}
+use Rattle.std.specs.Prelude.{Option, Some, None, Result, All}
 use Rattle.std.proofs.lemmas.List.Elements.{All-head, All-tail}
 use Rattle.ice_ids.specs.declared.Id12.{Id12}
 use Rattle.ice_ids.specs.declared.drawing.AnyIds.{AnyIds}
@@ -8,17 +8,14 @@ use Rattle.object_store.specs.declared.keys.Key.TheVariants.{Lease as Lease_key}
 use Rattle.object_store.specs.declared.keys.Why.TheVariants.{Lease as For_lease}
 use Rattle.object_store.specs.declared.events.Op.{Op}
 use Rattle.object_store.specs.declared.events.Op.TheVariants.{Remove}
-use Rattle.object_store.specs.declared.events.Reply.{Reply}
 use Rattle.object_store.specs.declared.events.Event.{Event}
 use Rattle.store_api.specs.declared.machines.Refusal.{Refusal}
 use Rattle.store_api.specs.Journal.{Each}
-use Rattle.store_api.specs.Callers.{Caller, IsOther, Makes}
+use Rattle.store_api.specs.Callers.{Caller, IsOther}
 use Rattle.store_api.specs.Plays.{Play, Ended, Ask, Or, PlayKeeps, PlayLeads}
-use Rattle.store_api.specs.Telling.{MadeGets}
 use Rattle.repo_read.proofs.Own.{MadeGets-append, MadeGets-none, Since, Since-makes, others-get}
 use Rattle.session.specs.Sources.{MayDrawObject}
-use Rattle.leases.specs.Plays.{after_release, release_play}
-use Rattle.leases.specs.Following.{followed}
+use Rattle.leases.specs.Plays.{release_play}
 use Rattle.leases.specs.Laws.{LeaseLaw}
 use Rattle.leases.specs.Telling.{ReleaseTells}
 use Rattle.leases.proofs.Following.{PlayKeeps-followed, PlayLeads-followed}

@@ -1,5 +1,5 @@
 -- What the releases of leases that are shown come to.
-use Rattle.std.proofs.Common.{◌≡◌, ◌++◌, ◌∙◌, ◌+◌, ◌<◌, ◌≤◌, Bool, true, false, List, [], ◌∷◌, length, take, drop, get_or, refl, sym, ap, subst}
+use Rattle.std.proofs.Common.{◌≡◌, ◌++◌, ◌∙◌, ◌+◌, ◌<◌, ◌≤◌, Bool, true, false, List, [], ◌∷◌, length, take, drop, get_or, refl, sym, ap}
 use Rattle.std.specs.Prelude.{◌||◌, ℕ, Option, Some, None, Result, Ok, Err}
 use Rattle.std.proofs.lemmas.List.Folds.{list_any-append}
 use Rattle.ice_ids.specs.declared.Id12.{Id12}
@@ -7,10 +7,8 @@ use Rattle.object_store.specs.declared.events.Reply.{Reply}
 use Rattle.object_store.specs.declared.events.Reply.TheVariants.{Got, New, Over, Gone, GoneAt, Listed, Failed}
 use Rattle.store_api.specs.declared.machines.Refusal.{Refusal}
 use Rattle.store_api.specs.declared.machines.Refusal.TheVariants.{StoreFault, NoMemory}
-use Rattle.store_api.specs.Program.{is_fault}
 use Rattle.store_api.specs.Plays.{Play, Ended, dooms}
-use Rattle.leases.specs.Plays.{release_play, after_release}
-use Rattle.leases.specs.Following.{followed}
+use Rattle.leases.specs.Plays.{after_release}
 use Rattle.play_outcome.specs.declared.outcome.Shown.{Shown}
 use Rattle.play_outcome.specs.declared.outcome.Shown.TheVariants.{Node, Meta, Chunk, Fill, Cells, Key, Log, Lease}
 use Rattle.play_outcome.specs.declared.outcome.End.{End}

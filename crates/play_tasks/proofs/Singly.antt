@@ -85,15 +85,11 @@ unfolding Within
 weaker-within may might f Q R g (Done a) w = g a w
 weaker-within may might f Q R g (Ask_next op k) w = (f op w.0, λ reply. weaker-within may might f Q R g (k reply) (w.1 reply))
 
-pub get-or : (op : Op) → IsGet op → IsGetOrRelease op
-get-or (Get key) g = tt
-get-or _ g = absurd g
-
 -- of gets
 pub call-gets : {A B : Type 0} (Q : Result A Refusal → Type 0) (p : Program A) (f : Result A Refusal → Play B) → Within IsGet Q p → ((r : Result A Refusal) → OnlyGets (f r)) → OnlyGets (call p f)
 unfolding Within OnlyGets
 call-gets Q (Done r) f w g = g r
-call-gets Q (Ask_next op k) f w g = (get-or op w.0, g (Err NoMemory), λ reply. behind-gets op (call (k reply) f) (f (Err NoMemory)) (moves_branch op) refl (call-gets Q (k reply) f (w.1 reply) g) (g (Err NoMemory)))
+call-gets Q (Ask_next op k) f w g = (inl w.0, g (Err NoMemory), λ reply. behind-gets op (call (k reply) f) (f (Err NoMemory)) (moves_branch op) refl (call-gets Q (k reply) f (w.1 reply) g) (g (Err NoMemory)))
 
 -- of no commit
 pub call-once : {A B : Type 0} (Q : Result A Refusal → Type 0) (p : Program A) (f : Result A Refusal → Play B) → Within NoCommit Q p → ((r : Result A Refusal) → Q r → Once (f r)) → Once (f (Err NoMemory)) → Once (call p f)

@@ -10,7 +10,7 @@ use Rattle.session.specs.Sources.{MayDrawObject}
 use Rattle.commit_path.specs.Opened.{IsOpened}
 use Rattle.commit_path.specs.Single.{HasPutAlike}
 use Rattle.commit_path.specs.Spelled.{IsSpelled}
-use Rattle.rebase.specs.Telling.{HasMoved, WasUpToDate}
+use Rattle.rebase.specs.Telling.{CameToHead, WasUpToDate}
 use Rattle.rebase.proofs.Kept.{ref-append, met-append}
 use Rattle.script_calls.specs.declared.calls.Access.{Access}
 use Rattle.play_script.specs.declared.scripts.Line.{Line}
@@ -30,7 +30,7 @@ pub record IsTried (body : List Line) (opened : SessionState) (client : ℕ) (ac
 
 -- ---- sessions that were carried
 module _ (client : ℕ) (policy : Policy) (s t : SessionState) (start journal more : List Event) where
-  moved-append : (count : ℕ) → HasMoved client policy s t count start journal → HasMoved client policy s t count start (journal ++ more)
+  moved-append : (count : ℕ) → CameToHead client policy s t count start journal → CameToHead client policy s t count start (journal ++ more)
   moved-append count w = record {
     head = w.head;
     version = w.version;

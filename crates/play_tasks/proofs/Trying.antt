@@ -33,9 +33,9 @@ use Rattle.commit_path.proofs.Sources.{later-later}
 use Rattle.rebase.proofs.Alike.{moved-alike, up_to_date-alike}
 use Rattle.rebase.specs.declared.machine.Rebased.{Rebased}
 use Rattle.rebase.specs.declared.machine.Rebased.TheVariants.{OnHead, UpToDate}
-use Rattle.rebase.specs.Laws.{RebaseLaw, GoesOn, OwnsOn}
+use Rattle.rebase.specs.Laws.{RebaseLaw, CanGoOn, OwnsOn}
 use Rattle.rebase.specs.Rebasing.{rebase_program}
-use Rattle.rebase.specs.Telling.{HasMoved, WasUpToDate, RebaseTells}
+use Rattle.rebase.specs.Telling.{CameToHead, WasUpToDate, RebaseTells}
 use Rattle.settle.specs.declared.settle.Doubt.{Doubt}
 use Rattle.settle.specs.declared.settle.Settled.{Settled}
 use Rattle.settle.specs.Laws.{SettleLaw}
@@ -52,7 +52,7 @@ use Rattle.play_outcome.specs.Playing.{ended, refused}
 use Rattle.play_tasks.specs.Owing.{IsPut}
 use Rattle.play_tasks.specs.Playing.{tries_of, policy_of, how_of, after_settling, doubt_of, doubt_play, after_commit, after_rebase, commit_play}
 use Rattle.play_tasks.specs.Solving.{CameToCommit, WasLost, WasCarried}
-use Rattle.play_tasks.specs.Telling.{HasCommitted, WasInDoubt, WasCommitRefused, WasLostAtLast, WasNotRebased}
+use Rattle.play_tasks.specs.Telling.{EndsCommitted, WasInDoubt, WasCommitRefused, WasLostAtLast, WasNotRebased}
 use Rattle.play_outcome.proofs.Plays.{Keeps-both}
 use Rattle.play_tasks.proofs.Doubting.{which, no-doubt, settle-within, walked-gets}
 use Rattle.play_tasks.proofs.Carrying.{Minds, Keeps-own, Keeps-with, Keeps-good, Leads-with, Leads-good, Leads-both, careful-more}
@@ -107,7 +107,7 @@ module _ (L : Laws) (by : Caller) (ids : AnyIds) (access : Access) (body : List 
     -- how its commit ends the task
     abbrev Ends : ℕ → SessionState → End → List Event → Type 0
     Ends count t end journal =
-        HasCommitted by.number t message start end journal
+        EndsCommitted by.number t message start end journal
         ⊎ (WasInDoubt by.number t message start end journal
         ⊎ (WasCommitRefused by.number l.number t message start end journal ⊎ (WasLostAtLast by.number access l.number count t start end journal ⊎ WasNotRebased by.number access l.number count t start end journal)))
 
@@ -271,12 +271,12 @@ module _ (L : Laws) (by : Caller) (ids : AnyIds) (access : Access) (body : List 
       puts journal gets = law.alike lost start h journal gets (HasPutAlike-same by.number t lost start h refl refl alike)
 
       -- the session that was rebased may commit
-      carried : (u : SessionState) (journal : List Event) → ((n : ℕ) × HasMoved by.number policy lost u n (start ++ since) journal) ⊎ WasUpToDate by.number lost u (start ++ since) journal → WasCarried by.number policy (suc count) s u start journal
+      carried : (u : SessionState) (journal : List Event) → ((n : ℕ) × CameToHead by.number policy lost u n (start ++ since) journal) ⊎ WasUpToDate by.number lost u (start ++ since) journal → WasCarried by.number policy (suc count) s u start journal
       unfolding WasCarried
       carried u journal w = (t, lost, since, subst (λ (x : List Event). WasCarried by.number policy count s t start x) there c, was_lost, w)
 
-      stands : (u : SessionState) (journal : List Event) → MadeGets by.number h journal → ((n : ℕ) × HasMoved by.number policy lost u n (start ++ since) journal) ⊎ WasUpToDate by.number lost u (start ++ since) journal
-          → HasPutAlike by.number u start journal → u.ids ≡ next → GoesOn (Ok (UpToDate u)) journal → Owns ids by.number u start journal → From journal → Stands (suc count) u journal
+      stands : (u : SessionState) (journal : List Event) → MadeGets by.number h journal → ((n : ℕ) × CameToHead by.number policy lost u n (start ++ since) journal) ⊎ WasUpToDate by.number lost u (start ++ since) journal
+          → HasPutAlike by.number u start journal → u.ids ≡ next → CanGoOn (Ok (UpToDate u)) journal → Owns ids by.number u start journal → From journal → Stands (suc count) u journal
       stands u journal gets w put drawn goes owned from = record {
         few = less;
         carried = carried u journal w;
@@ -287,7 +287,7 @@ module _ (L : Laws) (by : Caller) (ids : AnyIds) (access : Access) (body : List 
       }
 
       abbrev Rebases : Result Rebased Refusal → List Event → Type 0
-      Rebases answer journal = From journal × (RebaseTells by.number policy lost h answer journal × (GoesOn answer journal × OwnsOn ids by.number start answer journal))
+      Rebases answer journal = From journal × (RebaseTells by.number policy lost h answer journal × (CanGoOn answer journal × OwnsOn ids by.number start answer journal))
 
       rebased : (again : SessionState → Play Outcome) → ((u : SessionState) (journal : List Event) → Stands (suc count) u journal → Well (again u) journal)
           → (answer : Result Rebased Refusal) (journal : List Event) → Rebases answer journal → Well (after_rebase l.number shown again answer) journal
@@ -315,14 +315,14 @@ module _ (L : Laws) (by : Caller) (ids : AnyIds) (access : Access) (body : List 
           let p = rebase_program policy lost in
           let both = Keeps-both (λ j client op. IsPolite j op) (λ j client op. IsGet op) by p h (law.told.polite h) (law.gets h) in
           let careful = Keeps-own (λ j client op. IsPolite j op × IsGet op) (IsCareful ids Mine) by (λ j op k. record { polite = k.0; owes = get-owes ids Mine j op k.1 }) p h both in
-          let says : Result Rebased Refusal → List Event → Type 0 = λ answer j. RebaseTells by.number policy lost h answer j × (GoesOn answer j × OwnsOn ids by.number start answer j) in
+          let says : Result Rebased Refusal → List Event → Type 0 = λ answer j. RebaseTells by.number policy lost h answer j × (CanGoOn answer j × OwnsOn ids by.number start answer j) in
           called-well by ids access Mine start (l ∷ ls) s shown p (after_rebase l.number shown again) Rebases h
           careful
           (law.stays start h moved.nothing)
           (Keeps-own (λ j client op. IsGet op) (λ j client op. OwesOwn ids client start op j) by (λ j op g. get-own ids by.number start j op g) p h (law.gets h))
           (Leads-good From from-append ids Mine by says p h careful came
-          (Leads-both (RebaseTells by.number policy lost h) (λ answer j. GoesOn answer j × OwnsOn ids by.number start answer j) by p h (law.told.leads h)
-          (Leads-both GoesOn (OwnsOn ids by.number start) by p h (law.goes_on h ready.spelled ready.opened) (law.owns ids start h ready.owned))))
+          (Leads-both (RebaseTells by.number policy lost h) (λ answer j. CanGoOn answer j × OwnsOn ids by.number start answer j) by p h (law.told.leads h)
+          (Leads-both CanGoOn (OwnsOn ids by.number start) by p h (law.goes_on h ready.spelled ready.opened) (law.owns ids start h ready.owned))))
           (rebased again go)
           starved
 

@@ -4,7 +4,7 @@ use Rattle.zarr_path.specs.declared.keys.ZarrKey.{ZarrKey}
 use Rattle.zarr_path.specs.declared.keys.ZarrKey.TheVariants as zarr
 use Rattle.zarr_path.specs.Keys.{key_of}
 use Rattle.zarr_meta.specs.declared.faults.MetaFault.{MetaFault}
-use Rattle.zarr_meta.specs.declared.views.View.{View}
+use Rattle.zarr_meta.specs.declared.views.MetaView.{MetaView}
 use Rattle.zarr_meta.specs.Plain.{group_text}
 use Rattle.zarr_tree.specs.Nodes.{Node}
 use Rattle.store_api.specs.declared.machines.Refusal.{Refusal}
@@ -17,11 +17,11 @@ use Rattle.zarr_keys.specs.Keys.{session_of, put_over, erased_at, key_erased}
 use Rattle.script_calls.specs.declared.calls.EditCall.{EditCall}
 use Rattle.script_calls.specs.declared.calls.EditCall.TheVariants as edit
 use Rattle.play_script.specs.Well.{IsWellPath, IsWellText, IsWellEdit}
-use Rattle.play_tasks.specs.Lines.{edited}
+use Rattle.play_tasks.specs.Lines.{edits_to}
 
 -- what comes of a session by one of the ways; a node is added at a path that is well wherever its edit is
 pub data Way (Well : Type 0) (s : SessionState) : Result SessionState Refusal → Type 0 where
-  adds : (fault : Result View MetaFault → Option MetaFault) → TellsFaults fault → (path text : List ℕ) → (Well → IsWellPath path) → Way Well s (session_of (added fault s path text))
+  adds : (fault : Result MetaView MetaFault → Option MetaFault) → TellsFaults fault → (path text : List ℕ) → (Well → IsWellPath path) → Way Well s (session_of (added fault s path text))
   texts : (path text : List ℕ) → Way Well s (meta_set s path text)
   drops : (path : List ℕ) → Way Well s (node_dropped s path)
   unsets : (path index : List ℕ) → Way Well s (chunk_unset s path index)
@@ -40,7 +40,7 @@ erased-way Well s (Some (zarr.Meta path)) = drops path
 erased-way Well s (Some (zarr.Chunk path index)) = unsets path index
 
 -- each edit goes one of the ways
-pub edited-way : (x : EditCall) (s : SessionState) → Way (IsWellEdit x) s (edited x s)
+pub edited-way : (x : EditCall) (s : SessionState) → Way (IsWellEdit x) s (edits_to x s)
 unfolding key_erased
 edited-way (edit.Group path) s = adds group_fault (λ bad. refl) path group_text (λ well. well)
 edited-way (edit.Array path text) s = adds array_fault (λ bad. refl) path text (λ well. well.0)

@@ -12,7 +12,7 @@ use Rattle.zarr_path.specs.Paths.{path_cmp}
 use Rattle.zarr_tree.specs.declared.cases.Conflict.{Conflict}
 use Rattle.zarr_tree.specs.declared.edit.EditFault.{EditFault}
 use Rattle.zarr_tree.specs.Edits.{most_nodes}
-use Rattle.zarr_tree.specs.Held.{Entry, Held, touched, entry_in, nodes_over}
+use Rattle.zarr_tree.specs.Held.{HeldEntry, Held, touched, entry_in, nodes_over}
 use Rattle.zarr_tree.specs.Nodes.{Node}
 use Rattle.zarr_tree.specs.Touched.{is_untouched}
 use Rattle.zarr_changes.specs.declared.chunks.ChangedArray.{ChangedArray}
@@ -56,15 +56,15 @@ use Rattle.repo_read.specs.Programs.{manifest_program, log_program, snapshot_pro
 use Rattle.repo_read.specs.Chains.{most_snapshots}
 use Rattle.session.specs.declared.chunks.Value.{Value}
 use Rattle.session.specs.declared.chunks.Value.TheVariants.{Bytes}
-use Rattle.session.specs.Sessions.{SessionState, writes, base_nodes, nodes_seen, origin_at, moved_to}
-use Rattle.session.specs.Chunks.{set_program, put_chunk, put_object, after_object, after_draw, with_chunk, unless_fault, most_inline, get_program, read_listed, read_entry, read_place, read_object, read_own, read_at, read_found, found}
+use Rattle.session.specs.Sessions.{SessionState, writes, base_nodes, nodes_seen, origin_at, rebased_to}
+use Rattle.session.specs.Chunks.{set_program, put_chunk, put_object, after_object, after_draw, with_chunk, unless_fault, most_inline, get_program, read_listed, read_entry, read_place, read_object, read_own, read_at, read_found, found_bytes}
 use Rattle.commit_path.specs.declared.commit.Tried.{Tried}
 use Rattle.commit_path.specs.Committing.{Written, manifest_for, is_long, snap_for, after_manifest, with_manifest, put_manifest, write_array, old_program, array_program, arrays_program, put_log, after_log, put_snapshot, after_snapshot, after_branch, after_arrays, log_for, unwritten, commit_program}
 use Rattle.rebase.specs.declared.machine.Rebased.{Rebased}
 use Rattle.rebase.specs.declared.machine.Rebased.TheVariants.{OnHead, UpToDate}
 use Rattle.rebase.specs.Along.{Link, left_at, solved_at, first_hidden}
-use Rattle.rebase.specs.Rebasing.{Commits, head_of, walk_down, if_solved, solve_link, solve_program, on_head, over_commits, after_ref}
-use Rattle.play_tasks.specs.Bases.{GetsBranch, GetsWalked, LeasesAlone, LeasesBase}
+use Rattle.rebase.specs.Rebasing.{CommitsSince, head_of, walk_down, if_solved, solve_link, solve_program, on_head, over_commits, after_ref}
+use Rattle.play_tasks.specs.Bases.{GetsBranch, GetsWalked, IsLeaseOf, LeasesBase}
 
 -- each operation of the program may be made, and each of its answers is so
 unfoldable pub Within : {A : Type 0} → (Op → Type 0) → (A → Type 0) → Prog A → Type 0
@@ -131,7 +131,7 @@ abbrev pub Wrote : Written → Type 0
 Wrote w = Unit {0}
 
 -- any operation that gets what is no branch, or puts something new that is no lease
-module _ (may : Op → Type 0) (gets : (key : Key) → is_branch key ≡ false → may (Get key)) (puts : (key : Key) (bytes : List ℕ) (why : Why) → ((base : Id12) → LeasesAlone base key bytes) → may (PutNew key bytes why)) where
+module _ (may : Op → Type 0) (gets : (key : Key) → is_branch key ≡ false → may (Get key)) (puts : (key : Key) (bytes : List ℕ) (why : Why) → ((base : Id12) → IsLeaseOf base key bytes) → may (PutNew key bytes why)) where
   object-within : (s t : SessionState) (id : Id12) → IsSame s t → (reply : Reply) → WithinOk may (IsSame s) (after_object t id reply)
   unfolding Within
   object-within s t id same (Is_new (New_done version now)) = same
@@ -162,7 +162,7 @@ module _ (may : Op → Type 0) (gets : (key : Key) → is_branch key ≡ false �
       (λ e. refused-within may (IsSame s) _)
 
   -- ---- a chunk that is read
-  found-within : (r : Result (List ℕ) Refusal) → WithinOk may Any (found r)
+  found-within : (r : Result (List ℕ) Refusal) → WithinOk may Any (found_bytes r)
   unfolding Within
   found-within (Ok bytes) = tt
   found-within (Err why) = tt
@@ -233,7 +233,7 @@ module _ (may : Op → Type 0) (gets : (key : Key) → is_branch key ≡ false �
   array_write-within w a None = done-within may Wrote _ tt
   array_write-within w a (Some array) = either-within may Wrote (nat_lt refs_limit (length array.refs)) _ _ (λ many. refused-within may Wrote _) (λ few. manifest-within w a array (drawn12 w.ids))
 
-  pub arrays-within : (rows : List NodeRow) (entries : List (Entry Place)) (arrays : List ChangedArray) (w : Written) → WithinOk may Wrote (arrays_program rows entries arrays w)
+  pub arrays-within : (rows : List NodeRow) (entries : List (HeldEntry Place)) (arrays : List ChangedArray) (w : Written) → WithinOk may Wrote (arrays_program rows entries arrays w)
   unfolding arrays_program
   arrays-within rows entries [] w = done-within may Wrote w tt
   arrays-within rows entries (a ∷ more) w =
@@ -245,7 +245,7 @@ module _ (may : Op → Type 0) (gets : (key : Key) → is_branch key ≡ false �
 pub still-gets : (key : Key) → is_branch key ≡ false → Still (Get key)
 still-gets key e = (λ g. cc, λ base. tt)
 
-pub still-puts : (key : Key) (bytes : List ℕ) (why : Why) → ((base : Id12) → LeasesAlone base key bytes) → Still (PutNew key bytes why)
+pub still-puts : (key : Key) (bytes : List ℕ) (why : Why) → ((base : Id12) → IsLeaseOf base key bytes) → Still (PutNew key bytes why)
 still-puts key bytes why leases = (λ g. g, leases)
 
 abbrev Tries : Tried → Type 0
@@ -314,10 +314,10 @@ abbrev pub IsOnHead : SessionState → Resolved → Rebased → Type 0
 IsOnHead s named (OnHead t count) = (t.base ≡ named.id) × (t.origin ≡ origin_at named.version.0 s.origin)
 IsOnHead s named (UpToDate t) = (t.base ≡ named.id) × (t.origin ≡ origin_at named.version.0 s.origin)
 
-abbrev Came : Commits → Type 0
+abbrev Came : CommitsSince → Type 0
 Came c = Unit {0}
 
-abbrev behind : (base head : Id12) → (left : ℕ) → (above : List SnapshotFile) → SnapshotFile → Option Id12 → Program Commits
+abbrev behind : (base head : Id12) → (left : ℕ) → (above : List SnapshotFile) → SnapshotFile → Option Id12 → Program CommitsSince
 behind base head left above f parent = elim parent [
   | Some parent ↦ cond (same_id12 parent base) (Done (Ok (record { oldest = f; later = above }))) (walk_down base head left (f ∷ above) parent)
   | None ↦ Done (Err (NotAncestor head))
@@ -360,4 +360,4 @@ ref-within policy s named =
     (λ apart. then-within Climbs Came (IsOnHead s named) (walk_down s.base named.id most_snapshots [] named.id) (over_commits policy s named) (walk-within s.base named.id most_snapshots [] named.id)
     (λ c q. then-within Climbs Solved (IsOnHead s named) (solve_program policy s.held (base_nodes s) (c.oldest ∷ c.later)) (on_head s named (length c.later + 1) (head_of c.oldest c.later)) (solve-within policy s.held (base_nodes s) (c.oldest ∷ c.later))
     (λ held r. either-within Climbs (IsOnHead s named) (nat_lt most_nodes (len (nodes_over held (nodes_in (head_of c.oldest c.later).nodes)))) _ _ (λ many. refused-within Climbs (IsOnHead s named) _)
-    (λ few. done-within Climbs (IsOnHead s named) (OnHead (moved_to s named.id named.version.0 (head_of c.oldest c.later) held) (length c.later + 1)) (refl, refl)))))
+    (λ few. done-within Climbs (IsOnHead s named) (OnHead (rebased_to s named.id named.version.0 (head_of c.oldest c.later) held) (length c.later + 1)) (refl, refl)))))

@@ -1,4 +1,5 @@
--- Where a client has a session open, and the session's base there, by the client's own events. (Own.)
+-- Where a client has a session open, and the session's base there, by
+-- the client's own events. (Own.)
 use Rattle.std.specs.Prelude.{◌≡◌, ◌⊎◌, ℕ, Bool, List, [], ◌∷◌, ◌++◌, true, Some}
 use Rattle.ice_ids.specs.declared.Id12.{Id12}
 use Rattle.ice_ids.specs.declared.drawing.AnyIds.{AnyIds}
@@ -6,10 +7,11 @@ use Rattle.snapshot_file.specs.declared.snapshot.SnapshotFile.{SnapshotFile}
 use Rattle.ref_file.specs.Refs.{ref_bytes}
 use Rattle.repo_objects.specs.Readings.{ref_of, snapshot_by}
 use Rattle.object_store.specs.declared.keys.Key.{Key}
-use Rattle.object_store.specs.declared.keys.Key.TheVariants.{Snapshot, Manifest, Txn, Chunk, Branch, Tag, Tombstone, Lease}
-use Rattle.object_store.specs.declared.keys.Why.TheVariants.{Lease as For_lease}
+use Rattle.object_store.specs.declared.keys.Key.TheVariants.{Snapshot, Manifest, Txn, Chunk}
+use Rattle.object_store.specs.declared.keys.Key.TheVariants.{Branch, Tag, Tombstone, Lease}
 use Rattle.object_store.specs.declared.events.Op.{Op}
-use Rattle.object_store.specs.declared.events.Op.TheVariants.{Get, PutNew, PutOver, Remove, RemoveAt, List as ListPart}
+use Rattle.object_store.specs.declared.events.Op.TheVariants.{Get, PutNew, PutOver, Remove}
+use Rattle.object_store.specs.declared.events.Op.TheVariants.{RemoveAt, List as ListPart}
 use Rattle.object_store.specs.declared.events.Reply.{Reply}
 use Rattle.object_store.specs.declared.events.Reply.TheVariants.{Got}
 use Rattle.object_store.specs.declared.events.Got.TheVariants.{Found}
@@ -24,8 +26,10 @@ use Rattle.session.specs.declared.origin.Tip.{Tip}
 use Rattle.session.specs.declared.origin.Origin.{Origin}
 use Rattle.session.specs.declared.origin.Origin.TheVariants.{Writes, ReadsBranch, ReadsTag, ReadsId}
 use Rattle.session.specs.Opening.{Asked, of_branch}
+use Rattle.leases.specs.Telling.{IsOwnRelease}
 use Rattle.script_calls.specs.declared.calls.Head.{Head}
-use Rattle.script_calls.specs.declared.calls.Head.TheVariants.{Session, Refs, Collect, Expire, Check}
+use Rattle.script_calls.specs.declared.calls.Head.TheVariants.{Session, Refs}
+use Rattle.script_calls.specs.declared.calls.Head.TheVariants.{Collect, Expire, Check}
 use Rattle.play_script.specs.declared.scripts.Task.{Task}
 use Rattle.play_tasks.specs.Playing.{asked_by}
 
@@ -37,23 +41,29 @@ naming_key (ReadsBranch tip) base = Branch tip.branch
 naming_key (ReadsTag tag) base = Tag tag
 naming_key ReadsId base = Snapshot base
 
--- bytes that were got there at this version are a reference to the base, of a branch at the version that the session keeps; or the base itself
+-- bytes that were got there at this version are a reference to the base, of a branch at the version
+-- that the session keeps; or the base itself
 abbrev pub NamesBase : Origin → (base : Id12) → (bytes : List ℕ) → (version : ℕ) → Type 0
-NamesBase (Writes tip) base bytes version = (ref_of bytes ≡ Some base) × (tip.version ≡ version_at version)
-NamesBase (ReadsBranch tip) base bytes version = (ref_of bytes ≡ Some base) × (tip.version ≡ version_at version)
+NamesBase (Writes tip) base bytes version =
+    (ref_of bytes ≡ Some base) × (tip.version ≡ version_at version)
+NamesBase (ReadsBranch tip) base bytes version =
+    (ref_of bytes ≡ Some base) × (tip.version ≡ version_at version)
 NamesBase (ReadsTag tag) base bytes version = ref_of bytes ≡ Some base
 NamesBase ReadsId base bytes version = (snap : SnapshotFile) × (snapshot_by base bytes ≡ Some snap)
 
 -- the client's own get was answered with what names the base
-pub record WasNamed (client : ℕ) (origin : Origin) (base : Id12) (start journal : List Event) : Type 0 where
+pub record WasNamed (client : ℕ) (origin : Origin) (base : Id12)
+    (start journal : List Event) : Type 0 where
   pub bytes : List ℕ
   pub version : ℕ
   pub got : WasGot client (naming_key origin base) bytes version start journal
   pub names : NamesBase origin base bytes version
 
--- what names the base is what was asked for: a branch, at whichever version, to write to it or to read; a tag; or the base's own id
+-- what names the base is what was asked for: a branch, at whichever version, to write to it or to
+-- read; a tag; or the base's own id
 abbrev pub IsAskedFor : At → (writes : Bool) → Origin → (base : Id12) → Type 0
-IsAskedFor (At.Branch branch) writes origin base = (tip : Tip) × (tip.branch ≡ branch) × (origin ≡ of_branch writes tip)
+IsAskedFor (At.Branch branch) writes origin base =
+    (tip : Tip) × (tip.branch ≡ branch) × (origin ≡ of_branch writes tip)
 IsAskedFor (At.Tag tag) writes origin base = origin ≡ ReadsTag tag
 IsAskedFor (At.Snapshot id) writes origin base = (origin ≡ ReadsId) × (base ≡ id)
 
@@ -101,10 +111,12 @@ FoundAt version _ = ⊥
 pub record NoneNewer (version client : ℕ) (start journal : List Event) : Type 0 where
   pub more : List Event
   pub is : journal ≡ start ++ more
-  pub each : Each (λ before event. event.client ≡ client → GetsBranch event.op → FoundAt version event.reply) start more
+  pub each : Each (λ before event. event.client ≡ client → GetsBranch event.op
+      → FoundAt version event.reply) start more
 
--- The session is being rebased, or its commit is in doubt and is being settled: until here the client found the branch at no other version since the base
--- was named, and from here on it got a branch, snapshots and logs alone.
+-- The session is being rebased, or its commit is in doubt and is being settled: until here the
+-- client found the branch at no other version since the base was named, and from here on it got a
+-- branch, snapshots and logs alone.
 pub record IsRebasing (version client : ℕ) (since journal : List Event) : Type 0 where
   pub lost : List Event
   pub none : NoneNewer version client since lost
@@ -117,50 +129,51 @@ pub record HasAsked (client : ℕ) (at : At) (start journal : List Event) : Type
   pub own : HasOwn client (Get (key_of at)) reply start journal
   pub first : MadeAlone (λ op. ⊥) client start own.before
 
--- The client has a session open, since its first operation, and this is the base: what the client's own read of the session's branch named, and it found it at no
--- other version since; or while a rebase or a settling reads the branch anew, and what stands above the base, what the read before that named. Behind the rebase
--- the base is the branch's snapshot.
+-- The client has a session open, since its first operation, and this is the base: what the client's
+-- own read of the session's branch named, and it found it at no other version since; or while a
+-- rebase or a settling reads the branch anew, and what stands above the base, what the read before
+-- that named. Behind the rebase the base is the branch's snapshot.
 pub record HasBase (client : ℕ) (a : Asked) (start journal : List Event) : Type 0 where
   pub asked : HasAsked client a.at start journal
   pub base : Id12
   pub origin : Origin
   pub of_asked : IsAskedFor a.at a.writes origin base
   pub named : WasNamed client origin base start journal
-  pub last : NoneNewer named.version client (named.got.own.before ++ named.got.own.event ∷ []) journal
+  pub last : NoneNewer named.version client
+      (named.got.own.before ++ named.got.own.event ∷ []) journal
       ⊎ IsRebasing named.version client (named.got.own.before ++ named.got.own.event ∷ []) journal
 
--- what is put at the key of a lease is a reference to this snapshot
-abbrev pub LeasesAlone : Id12 → Key → List ℕ → Type 0
-LeasesAlone base (Lease id) bytes = bytes ≡ ref_bytes base
-LeasesAlone base (Snapshot id) bytes = Unit {0}
-LeasesAlone base (Manifest id) bytes = Unit {0}
-LeasesAlone base (Txn id) bytes = Unit {0}
-LeasesAlone base (Chunk id) bytes = Unit {0}
-LeasesAlone base (Branch name) bytes = Unit {0}
-LeasesAlone base (Tag name) bytes = Unit {0}
-LeasesAlone base (Tombstone name) bytes = Unit {0}
+-- if the key is a lease's, the bytes are a reference to this base
+abbrev pub IsLeaseOf : Id12 → Key → List ℕ → Type 0
+IsLeaseOf base (Lease id) bytes = bytes ≡ ref_bytes base
+IsLeaseOf base (Snapshot id) bytes = Unit {0}
+IsLeaseOf base (Manifest id) bytes = Unit {0}
+IsLeaseOf base (Txn id) bytes = Unit {0}
+IsLeaseOf base (Chunk id) bytes = Unit {0}
+IsLeaseOf base (Branch name) bytes = Unit {0}
+IsLeaseOf base (Tag name) bytes = Unit {0}
+IsLeaseOf base (Tombstone name) bytes = Unit {0}
 
 -- a lease that the operation puts is one of this snapshot
 abbrev pub LeasesBase : Id12 → Op → Type 0
-LeasesBase base (PutNew key bytes why) = LeasesAlone base key bytes
+LeasesBase base (PutNew key bytes why) = IsLeaseOf base key bytes
 LeasesBase base (Get key) = Unit {0}
 LeasesBase base (PutOver key bytes old why) = Unit {0}
 LeasesBase base (Remove key why) = Unit {0}
 LeasesBase base (RemoveAt key old why) = Unit {0}
 LeasesBase base (ListPart part) = Unit {0}
 
--- an operation of the client of such a session: the first one, a get of what is asked for; or it comes where the session has a base, and leases no other
+-- an operation of the client of such a session: the first one, a get of what is asked for; or it
+-- comes where the session has a base, and leases no other
 abbrev pub OpensOrHasBase : ℕ → Asked → List Event → List Event → Op → Type 0
 OpensOrHasBase client a start journal op =
-    (MadeAlone (λ o. ⊥) client start journal × (op ≡ Get (key_of a.at))) ⊎ ((has : HasBase client a start journal) × LeasesBase has.base op)
+    (MadeAlone (λ o. ⊥) client start journal × (op ≡ Get (key_of a.at)))
+    ⊎ ((has : HasBase client a start journal) × LeasesBase has.base op)
 
--- the release of a lease
-abbrev pub IsRelease : Op → Type 0
-IsRelease op = (id : Id12) × (op ≡ Remove (Lease id) For_lease)
-
--- so is each of a task that opens a session, but for the releases of its leases
+-- so is each of a task that opens a session, but for the releases of its own leases
 abbrev pub ComesOpen : Head → AnyIds → (client : ℕ) → (start journal : List Event) → Op → Type 0
-ComesOpen (Session access) ids client start journal op = OpensOrHasBase client (asked_by access ids) start journal op ⊎ IsRelease op
+ComesOpen (Session access) ids client start journal op =
+    OpensOrHasBase client (asked_by access ids) start journal op ⊎ IsOwnRelease ids op
 ComesOpen Refs ids client start journal op = Unit {0}
 ComesOpen (Collect cutoff) ids client start journal op = Unit {0}
 ComesOpen (Expire cutoff drop_branches drop_tags) ids client start journal op = Unit {0}

@@ -23,25 +23,35 @@ abbrev pub plays_from : Draw → ℕ → List Task → List (Play Outcome)
 plays_from draw place [] = []
 plays_from draw place (t ∷ ts) = task_play (ids_at draw place) t ∷ plays_from draw (place + 1) ts
 
--- What the outcome of the task at this place tells of the journal, where the tasks began at `start`.
+-- What the outcome of the task at this place tells of the journal,
+-- where the tasks began at `start`.
 abbrev pub TellsAt : Draw → ℕ → Task → List Event → Outcome → List Event → Type 0
-TellsAt draw place task start outcome journal = TellsOutcome (ids_at draw place) task (place + 1) start outcome journal
+TellsAt draw place task start outcome journal =
+    TellsOutcome (ids_at draw place) task (place + 1) start outcome journal
 
--- Whatever others do, each operation that the worker at this place comes to is polite, and what its task owes, and if it puts something and the task
--- opens a session, comes before its client changed a branch; and its outcome will tell the journal, where the tasks began at `start`.
-pub record Stands (draw : Draw) (tasks : List Task) (start : List Event) (tells : Bool) (place : ℕ) (p : Play Outcome) (journal : List Event) : Type 0 where
+-- Whatever others do, each operation that the worker at this place comes to is polite, and what its
+-- task owes, and if it puts something and the task opens a session, comes before its client changed
+-- a branch; and its outcome will tell the journal, where the tasks began at `start`.
+pub record Stands (draw : Draw) (tasks : List Task) (start : List Event) (tells : Bool) (place : ℕ)
+    (p : Play Outcome) (journal : List Event) : Type 0 where
   pub task : Task
   pub at : slice_get tasks place ≡ Some task
-  pub careful : PlayKeeps (IsDue (ids_at draw place) task (place + 1) start) (only tells (place + 1)) p journal
-  pub before : PlayKeeps (λ h client op. BeforeChange task client start h op) (only tells (place + 1)) p journal
+  pub careful : PlayKeeps (IsDue (ids_at draw place) task (place + 1) start)
+      (only tells (place + 1)) p journal
+  pub before : PlayKeeps (λ h client op. BeforeChange task client start h op)
+      (only tells (place + 1)) p journal
   pub leads : PlayLeads (TellsAt draw place task start) (only tells (place + 1)) p journal
 
-abbrev pub AllStand : Draw → List Task → List Event → Bool → List (Play Outcome) → List Event → Type 0
-AllStand draw tasks start tells ps journal = (place : ℕ) (p : Play Outcome) → slice_get ps place ≡ Some p → Stands draw tasks start tells place p journal
+abbrev pub AllStand : Draw → List Task → List Event → Bool
+    → List (Play Outcome) → List Event → Type 0
+AllStand draw tasks start tells ps journal =
+    (place : ℕ) (p : Play Outcome) → slice_get ps place ≡ Some p
+    → Stands draw tasks start tells place p journal
 
--- The event is good, its client's, and what the task of that client owes, where the tasks began at `start`; and if it puts something and the task opens
--- a session, the client had changed no branch.
-pub record IsOfClient (draw : Draw) (tasks : List Task) (start journal : List Event) (event : Event) : Type 0 where
+-- The event is good, its client's, and what the task of that client owes, where the tasks began at
+-- `start`; and if it puts something and the task opens a session, the client had changed no branch.
+pub record IsOfClient (draw : Draw) (tasks : List Task) (start journal : List Event)
+    (event : Event) : Type 0 where
   pub place : ℕ
   pub task : Task
   pub client : event.client ≡ place + 1
@@ -55,9 +65,12 @@ HasEndedAt place ps = (p : Play Outcome) → slice_get ps place ≡ Some p → H
 
 -- an outcome that tells a fault of the store comes only where the faults rose
 abbrev pub AllBlame : List Outcome → ℕ → ℕ → Type 0
-AllBlame outcomes m n = (place : ℕ) (outcome : Outcome) → slice_get outcomes place ≡ Some outcome → is_failed outcome ≡ true → Rose m n
+AllBlame outcomes m n =
+    (place : ℕ) (outcome : Outcome) → slice_get outcomes place ≡ Some outcome
+    → is_failed outcome ≡ true → Rose m n
 
 -- each outcome tells the journal, where the tasks began at `start`
 abbrev pub AllTold : Draw → List Task → List Outcome → List Event → List Event → Type 0
 AllTold draw tasks outcomes start journal =
-    (place : ℕ) (task : Task) (outcome : Outcome) → slice_get tasks place ≡ Some task → slice_get outcomes place ≡ Some outcome → TellsAt draw place task start outcome journal
+    (place : ℕ) (task : Task) (outcome : Outcome) → slice_get tasks place ≡ Some task
+    → slice_get outcomes place ≡ Some outcome → TellsAt draw place task start outcome journal

@@ -7,7 +7,8 @@ use Rattle.play_collect.specs.Workers.{collecting_rest, collecting_left}
 use Rattle.play_expire.specs.Workers.{expiring_rest, expiring_left}
 use Rattle.play_check.specs.Workers.{checking_rest, checking_left}
 use Rattle.play_tasks.specs.declared.worker.Player.{Player}
-use Rattle.play_tasks.specs.declared.worker.Player.TheVariants.{Session, Refs, Collect, Expire, Check}
+use Rattle.play_tasks.specs.declared.worker.Player.TheVariants.{Session, Refs}
+use Rattle.play_tasks.specs.declared.worker.Player.TheVariants.{Collect, Expire, Check}
 use Rattle.play_tasks.specs.declared.worker.Worker.{Worker}
 use Rattle.play_tasks.specs.inside.Sessions.{session_rest, session_left}
 

@@ -1,13 +1,13 @@
 //! The lines of a task that set and read chunks, by their places and by their keys.
 
-ghost use Rattle.std.specs.Prelude.{◌≡◌, ◌++◌, ◌∷◌, [], true, replicate, IfOk, OnOk, OnErr};
-ghost use Rattle.std.specs.FinMap.{get};
+ghost use Rattle.std.specs.Prelude.{◌≡◌, ◌++◌, ◌∷◌, [], true, OnOk, OnErr};
 ghost use Rattle.zarr_path.specs.Keys.{key_of};
 ghost use Rattle.store_api.specs.Plays.{call};
 ghost use Rattle.store_api.specs.Running.{Program};
-ghost use Rattle.session.specs.Sessions.{SessionState, nodes_seen};
-ghost use Rattle.session.specs.Setting.{Sets as CameTo};
-ghost use Rattle.play_tasks.specs.Lines.{value_shown, key_shown, length_at, filled, key_set_deed, key_get_deed, Sets, Reads};
+ghost use Rattle.session.specs.Sessions.{SessionState};
+ghost use Rattle.session.specs.Chunks.{filled};
+ghost use Rattle.session.specs.Setting.{SetBegun};
+ghost use Rattle.play_tasks.specs.Lines.{value_shown, key_shown, key_set_deed, key_get_deed, Sets, Reads};
 ghost use Rattle.play_tasks.specs.inside.Working.{after_set, shown_for, is_clean, PlayComes, CallComes, IsBounded, EndsCalmly};
 
 use crate::lines::refuse;
@@ -17,11 +17,8 @@ use play_outcome::Shown;
 use session::{Getting, Session, Setting, Value};
 use std::alloc::{AllocError, Global};
 use store_api::Refusal;
-use zarr_grid::chunk_bytes;
 use zarr_keys::{KeyGetting, KeyValue, key_answer, key_get, key_set};
-use zarr_meta::View;
 use zarr_path::{Index, Path};
-use zarr_tree::grid_law;
 
 /// What follows a call that sets a chunk or a key: it was done, or a machine has it to do, or it was refused.
 fn after_call(
@@ -30,9 +27,9 @@ fn after_call(
     came: Result<Setting, (Session, Refusal)>,
     shown: Vec<Shown>,
 ) -> Step
-    ensures comes { (s : SessionState) (p : Program SessionState) → CameTo p s came
+    ensures comes { (s : SessionState) (p : Program SessionState) → SetBegun p s came
         → PlayComes line at shown.items (λ rest. call p (after_set line shown.items rest)) result }
-    ensures clean { (s : SessionState) (p : Program SessionState) → CameTo p s came → EndsCalmly p
+    ensures clean { (s : SessionState) (p : Program SessionState) → SetBegun p s came → EndsCalmly p
         → is_clean result ≡ true }
     ensures bounded { IsBounded at result }
 {
@@ -92,43 +89,8 @@ pub(crate) fn play_key_set(
     )
 }
 
-/// How many bytes a chunk of the array at a path has: none where no array is.
-fn chunk_len(session: &Session, path: &Path) -> u64
-    ensures { result ≡ length_at (get (nodes_seen session.now) path.now) }
-{
-    grid_law();
-    let meta = match session.get_meta(path) {
-        Ok(meta) => meta,
-        Err(why) => {
-            drop(why);
-            return 0;
-        }
-    };
-    let View::Array(array) = &meta.view else {
-        return 0;
-    };
-    chunk_bytes(array.kind.size(), array.chunks.as_slice())
-}
-
-/// How many bytes are written at once where all are the same.
-const PIECE: usize = 64;
-
-/// So many of one byte. They are copied by pieces, since a chunk may have many.
-fn repeated(alloc: Global, byte: u8, len: usize) -> Result<Vec<u8>, AllocError>
-    ensures { IfOk result (λ bytes. bytes.items ≡ replicate len byte) }
-{
-    let piece = [byte; PIECE];
-    let mut bytes = Vec::with_capacity(alloc, len)?;
-    while bytes.len() < len {
-        let more = (len - bytes.len()).min(PIECE);
-        bytes.extend_from_slice(&piece[..more])?;
-    }
-    Ok(bytes)
-}
-
 /// Sets a chunk all of whose bytes are the same.
 pub(crate) fn play_fill(
-    alloc: Global,
     line: u32,
     at: usize,
     path: &Path,
@@ -142,12 +104,7 @@ pub(crate) fn play_fill(
     ensures clean { is_clean result ≡ true }
     ensures bounded { IsBounded at result }
 {
-    let len = chunk_len(&session, path) as usize;
-    let Ok(bytes) = repeated(alloc, byte, len) else {
-        drop(session);
-        return Step::Stop(refuse(line, shown, Refusal::NoMemory));
-    };
-    play_set(line, at, path, index, &bytes, session, shown)
+    after_call(line, at, session.fill_chunk(path, index, byte), shown)
 }
 
 /// A chunk that this line of the script asked for.

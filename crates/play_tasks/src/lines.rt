@@ -3,7 +3,7 @@
 ghost use Rattle.std.specs.Prelude.{ℕ, ◌≡◌, ◌≤◌, ◌+◌, ◌-◌, ◌*◌, ◌++◌, true, length, map, IfOk, OnErr};
 ghost use Rattle.store_api.specs.Plays.{Comes};
 ghost use Rattle.session.specs.Editing.{listed, prop_added, text_at};
-ghost use Rattle.play_tasks.specs.Lines.{node_shown, nodes_shown, meta_shown, deed, edit_deed, read_deed, Goes, Commits, edited, silent, still, read_by};
+ghost use Rattle.play_tasks.specs.Lines.{node_shown, nodes_shown, meta_shown, deed, edit_deed, read_deed, Goes, Commits, edits_to, silent, still, read_by};
 ghost use Rattle.play_tasks.specs.inside.Working.{is_clean, is_well, is_local, without_id, working_rest, working_left, most_steps, lines_from, Edits, Looks, LineComes, CallComes, IsBounded};
 
 use crate::boxes::{play_cells, play_put};
@@ -106,7 +106,7 @@ fn without_id(added: Result<Id8, Refusal>) -> Result<(), Refusal>
 
 /// Makes an edit that needs no operation.
 fn edit_session(alloc: Global, edit: &EditCall, session: &mut Session) -> Result<(), Refusal>
-    ensures edits { Edits (edited edit.now session.old) result session.new }
+    ensures edits { Edits (edits_to edit.now session.old) result session.new }
     ensures local { is_local result ≡ true }
 {
     match edit {
@@ -136,7 +136,7 @@ fn play_change(
     shown: Vec<Shown>,
 ) -> Step
     ensures comes { (at : ℕ)
-        → CallComes line at shown.items session (Goes (silent (edited edit.now session))) result }
+        → CallComes line at shown.items session (Goes (silent (edits_to edit.now session))) result }
     ensures clean { is_clean result ≡ true }
     ensures bounded { (at : ℕ) → IsBounded at result }
 {
@@ -166,7 +166,7 @@ fn play_edit(
             play_set(line, at, path, index, bytes.as_slice(), session, shown)
         }
         EditCall::Fill { path, index, byte } => {
-            play_fill(alloc, line, at, path, index, *byte, session, shown)
+            play_fill(line, at, path, index, *byte, session, shown)
         }
         EditCall::Put { place, numbers } => {
             play_put(alloc, line, at, place, numbers, session, shown)

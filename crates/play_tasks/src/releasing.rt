@@ -18,14 +18,8 @@ fn lease_in(shown: &Shown) -> Option<(u32, Id12)>
     ensures { result ≡ lease_in shown.now }
 {
     match shown {
-        Shown::Node { .. }
-        | Shown::Meta { .. }
-        | Shown::Chunk { .. }
-        | Shown::Fill { .. }
-        | Shown::Cells { .. }
-        | Shown::Key { .. }
-        | Shown::Log { .. } => None,
         Shown::Lease { line, id, .. } => Some((*line, *id)),
+        _ => None,
     }
 }
 

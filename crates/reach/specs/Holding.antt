@@ -6,7 +6,8 @@ use Rattle.manifest_file.specs.declared.manifest.ManifestFile.{ManifestFile}
 use Rattle.snapshot_file.specs.declared.nodes.NodeRow.{NodeRow}
 use Rattle.repo_objects.specs.Trees.{NamesManifest, NamesChunk, manifest_put}
 use Rattle.object_store.specs.declared.keys.Key.{Key}
-use Rattle.object_store.specs.declared.keys.Key.TheVariants.{Snapshot, Manifest, Txn, Chunk, Branch, Tag, Tombstone, Lease}
+use Rattle.object_store.specs.declared.keys.Key.TheVariants.{Snapshot, Manifest, Txn, Chunk}
+use Rattle.object_store.specs.declared.keys.Key.TheVariants.{Branch, Tag, Tombstone, Lease}
 use Rattle.object_store.specs.declared.events.Event.{Event}
 use Rattle.store_api.specs.Journal.{puts_of, rows_of}
 use Rattle.reach.specs.Chains.{Chain}
@@ -25,7 +26,8 @@ pub record HoldsChunk (journal : List Event) (id object : Id12) : Type 0 where
   pub is : manifest_put (puts_of journal) manifest ≡ Some file
   pub names : NamesChunk file object
 
--- A snapshot holds its log, the manifests that its rows name, and the objects in which these have chunks. What can't be read names nothing.
+-- A snapshot holds its log, the manifests that its rows name, and the objects in which these have
+-- chunks. What can't be read names nothing.
 abbrev pub Holds : List Event → Id12 → Key → Type 0
 Holds journal id (Snapshot other) = ⊥
 Holds journal id (Txn log) = log ≡ id
@@ -42,7 +44,7 @@ pub record ReachesDown (journal : List Event) (id : Id12) (key : Key) : Type 0 w
   pub chain : Chain journal id at
   pub has : (key ≡ Snapshot at) ⊎ Holds journal at key
 
--- A snapshot reaches the initial one's key, itself, what it holds, and all that its parent as it stands reaches: by the files that were put last,
--- removed since or not.
+-- A snapshot reaches the initial one's key, itself, what it holds, and all that its parent as it
+-- stands reaches: by the files that were put last, removed since or not.
 abbrev pub Reaches : List Event → Id12 → Key → Type 0
 Reaches journal id key = (key ≡ Snapshot initial_id) ⊎ ReachesDown journal id key

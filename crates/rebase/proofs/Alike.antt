@@ -8,11 +8,11 @@ use Rattle.session.specs.Sessions.{SessionState, base_nodes}
 use Rattle.commit_path.specs.Single.{HasPutAlike}
 use Rattle.commit_path.proofs.Singling.{HasPutAlike-same}
 use Rattle.rebase.specs.Along.{Link, along}
-use Rattle.rebase.specs.Telling.{HasMoved, WasUpToDate}
+use Rattle.rebase.specs.Telling.{CameToHead, WasUpToDate}
 use Rattle.rebase.proofs.Moving.{EndsAt, way-ends}
 
 -- so the snapshots that its client put are like those of both
-pub moved-alike : (client : ℕ) (policy : Policy) (s t : SessionState) (count : ℕ) (start journal origin h : List Event) → HasMoved client policy s t count start journal → HasPutAlike client s origin h → HasPutAlike client t origin h
+pub moved-alike : (client : ℕ) (policy : Policy) (s t : SessionState) (count : ℕ) (start journal origin h : List Event) → CameToHead client policy s t count start journal → HasPutAlike client s origin h → HasPutAlike client t origin h
 moved-alike client policy s t count start journal origin h m =
     let last : Link = record { file = m.snap; lists = m.solved.lists } in
     let ends : EndsAt policy s.held m.held last = way-ends policy s.held m.held (base_nodes s) m.solved.before last (ap (λ (ls : List Link). along policy s.held (base_nodes s) ls) (sym m.solved.last) ∙ m.solved.solved) in

@@ -20,7 +20,7 @@ use Rattle.conflicts.specs.Solving.{left_of, given_up, keys_in}
 use Rattle.conflicts.proofs.Members.{in-contains}
 use Rattle.conflicts.proofs.LawProofs.{commuting-law, solved-law}
 use Rattle.rebase.specs.Along.{Link, Way, Solves, Stays, Hides, sides_at, left_at, solved_at, first_hidden, past, along}
-use Rattle.rebase.specs.AlongLaws.{Follows, FollowsApart, HasOneTextEach, NormalLaw, IsQuiet, LeadBoth, QuietLaw}
+use Rattle.rebase.specs.AlongLaws.{Follows, FollowsApart, HasOneTextEach, NormalLaw, NoneConflicts, LeadBoth, QuietLaw}
 use Rattle.rebase.proofs.Unhidden.{is-kept, normal-keeps, none-hidden, none-out}
 
 -- ---- what ends a way
@@ -111,7 +111,7 @@ module _ (bytes_at : Place → Option (List ℕ)) where
 
 -- ---- where nothing conflicts
 quiet-along : QuietLaw
-unfolding along FollowsApart IsQuiet LeadBoth
+unfolding along FollowsApart NoneConflicts LeadBoth
 quiet-along bytes_at policy held t u [] one w n f q = (refl, (f, ap (apply (changes_of bytes_at held)) f))
 quiet-along bytes_at policy held t u (l ∷ ls) one w n f q =
     let b : IsBeside (changes_of bytes_at held) f.0 t l.lists = record { well_formed = w; ours = n; others = f.1; unlike = λ p m a. (f.4 p m a).1; touched = f.2 } in
@@ -119,7 +119,7 @@ quiet-along bytes_at policy held t u (l ∷ ls) one w n f q =
     let hidden : first_hidden (nodes_in l.file.nodes) held.metas ≡ None = honest-log bytes_at policy held t l f.0 b f.3 one nothing in
     let normal : IsNormal (changes_of bytes_at held) (apply f.0 t) = subst (λ (h : Held Place). IsNormal (changes_of bytes_at h) (apply f.0 t)) (none-out held) (still-normal bytes_at policy held t l f.0 b f.3 nothing []) in
     let commute = commuting-law bytes_at held f.0 t l.lists b f.4 f.5 (ap (λ (m : FinMap path_cmp Node). found (record { held = held; theirs = l.lists; before = t.nodes; after = m })) f.3 ∙ q.0) in
-    let further = quiet-along bytes_at policy held (apply f.0 t) u ls one b.others.well_formed normal f.6 (subst (λ (m : FinMap path_cmp Node). IsQuiet held m ls) (sym f.3) q.1) in (
+    let further = quiet-along bytes_at policy held (apply f.0 t) u ls one b.others.well_formed normal f.6 (subst (λ (m : FinMap path_cmp Node). NoneConflicts held m ls) (sym f.3) q.1) in (
       (λ z. past l.file.id (nothing z) (hidden z) (along policy (without_chunks held (keys_in t.nodes (given_up policy (q.0 z)))) (nodes_in l.file.nodes) ls))
           ∙ ap (λ (h : Held Place). along policy h (nodes_in l.file.nodes) ls) (none-out held)
           ∙ ap (λ (m : FinMap path_cmp Node). along policy held m ls) (sym f.3)

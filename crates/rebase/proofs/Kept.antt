@@ -27,7 +27,7 @@ use Rattle.session.specs.Sessions.{SessionState, branch_of}
 use Rattle.rebase.specs.declared.machine.Rebased.{Rebased}
 use Rattle.rebase.specs.declared.machine.Rebased.TheVariants.{OnHead, UpToDate}
 use Rattle.rebase.specs.Along.{Link}
-use Rattle.rebase.specs.Telling.{CameTo, HasEnded, HasMoved, IsOfRebase, LogIsBad, LogIsMissing, LogWasReadAs, RebaseSays, RebaseTells, SnapshotIsBad, SnapshotIsMissing, WasFull, WasHidden, WasLeft, WasTooDeep, WasUpToDate, WasWalked, WereMet, WereSolved}
+use Rattle.rebase.specs.Telling.{CameTo, HasEnded, CameToHead, IsOfRebase, LogIsBad, LogIsMissing, LogWasReadAs, RebaseSays, RebaseTells, SnapshotIsBad, SnapshotIsMissing, WasFull, WasHidden, WasLeft, WasTooDeep, WasUpToDate, WasWalked, WereMet, WereSolved}
 use Rattle.repo_read.proofs.Own.{MadeGets-append, MadeOne-append, others-get, made-more}
 
 -- what stays so whatever comes stays so behind an own operation
@@ -74,7 +74,7 @@ module _ (client : ℕ) (start journal more : List Event) where
   came-append s head next seen c = record { version = c.version; ref = ref-append (Branch (branch_of s)) c.version head c.ref; walked = walked-append s.base next head seen c.walked; apart = c.apart }
 
   -- ---- the answers
-  moved-append : (policy : Policy) (s t : SessionState) (count : ℕ) → HasMoved client policy s t count start journal → HasMoved client policy s t count start (journal ++ more)
+  moved-append : (policy : Policy) (s t : SessionState) (count : ℕ) → CameToHead client policy s t count start journal → CameToHead client policy s t count start (journal ++ more)
   moved-append policy s t count w = record { head = w.head; version = w.version; snap = w.snap; held = w.held; solved = solved-append policy s w.head w.version count w.snap w.held w.solved; few = w.few; becomes = w.becomes }
 
   same-append : (s t : SessionState) → WasUpToDate client s t start journal → WasUpToDate client s t start (journal ++ more)
@@ -97,7 +97,7 @@ module _ (client : ℕ) (start journal more : List Event) where
     stays = w.stays;
   }
 
-  hidden-append : (policy : Policy) (s : SessionState) (key : Key) (bad : Bad) → WasHidden client policy s key bad start journal → WasHidden client policy s key bad start (journal ++ more)
+  pub hidden-append : (policy : Policy) (s : SessionState) (key : Key) (bad : Bad) → WasHidden client policy s key bad start journal → WasHidden client policy s key bad start (journal ++ more)
   hidden-append policy s key bad w = record {
     head = w.head;
     version = w.version;

@@ -18,7 +18,7 @@ use Rattle.zarr_tree.specs.Trees.{Tree}
 use Rattle.zarr_tree.specs.Touched.{lists}
 use Rattle.zarr_tree.specs.Edits.{most_nodes}
 use Rattle.zarr_tree.specs.Changes.{is_gone}
-use Rattle.zarr_tree.specs.Held.{Held, Entry, entry_in, meta_in, nodes_over}
+use Rattle.zarr_tree.specs.Held.{Held, HeldEntry, entry_in, meta_in, nodes_over}
 use Rattle.zarr_tree.proofs.Apply.{first, second, id-true}
 use Rattle.zarr_changes.specs.Edits.{lists_key}
 use Rattle.conflicts.specs.declared.solving.Policy.{Policy}
@@ -29,7 +29,7 @@ use Rattle.conflicts.proofs.Facts.{in-row, none-of, turned}
 use Rattle.conflicts.proofs.Exactness.{exact-law, made}
 use Rattle.object_store.specs.declared.events.Event.{Event}
 use Rattle.store_api.specs.Journal.{Each, IsGood}
-use Rattle.session.specs.Sessions.{SessionState, branch_of, origin_at, moved_to}
+use Rattle.session.specs.Sessions.{SessionState, branch_of, origin_at, rebased_to}
 use Rattle.commit_path.specs.Opened.{BranchNamed, IsOpened}
 use Rattle.commit_path.specs.Spelled.{IsOtherText, IsSpelled}
 use Rattle.commit_path.proofs.Knowing.{BranchNamed-append, tip-moved}
@@ -44,7 +44,7 @@ Nodes = FinMap path_cmp Node
 -- ---- what is still held
 -- the same, but for entries that were given up
 pub record IsLess (held left : Held Place) : Type 0 where
-  pub rows : List (Entry Place)
+  pub rows : List (HeldEntry Place)
   pub is : left ≡ record held { chunks = rows }
   pub fewer : AreFewer held.chunks rows
 
@@ -172,8 +172,8 @@ same-opened s version h n o = record { named = tip-moved h s.base version s.orig
 
 -- ---- a session that moved on
 module _ (s : SessionState) (id : Id12) (version : ℕ) where
-  pub moved-opened : (f : SnapshotFile) (left : Held Place) (h : List Event) → HasNamed (branch_of s) version id h → IsHead id f h → IsLess s.held left → IsOpened s h → IsOpened (moved_to s id version f left) h
-  moved-opened f left h n k less o = subst (λ (held : Held Place). IsOpened (moved_to s id version f held) h) (sym less.is) (record {
+  pub moved-opened : (f : SnapshotFile) (left : Held Place) (h : List Event) → HasNamed (branch_of s) version id h → IsHead id f h → IsLess s.held left → IsOpened s h → IsOpened (rebased_to s id version f left) h
+  moved-opened f left h n k less o = subst (λ (held : Held Place). IsOpened (rebased_to s id version f held) h) (sym less.is) (record {
     named = tip-moved h id version s.origin n;
     put = k.put;
     had = k.had;
@@ -191,8 +191,8 @@ module _ (s : SessionState) (id : Id12) (version : ℕ) where
       subst (λ (h : Held Place). (p : List ℕ) (m n : Node) → get h.added p ≡ Some m → get (nodes_in l.file.nodes) p ≡ Some n → is_gone (lists h.dropped) (nodes_in l.file.nodes) p ≡ true) r.mid_less.is
       (none-taken policy r.mid r.before l r.none)
 
-  pub moved-spelled : (policy : Policy) (l : Link) (left : Held Place) → EndsAt policy s.held left l → IsId12 id → IsProper l.file → len (nodes_over left (nodes_in l.file.nodes)) ≤ most_nodes → IsSpelled s → IsSpelled (moved_to s id version l.file left)
-  moved-spelled policy l left r i proper few w = subst (λ (held : Held Place). IsSpelled (moved_to s id version l.file held)) (sym r.less.is) (record {
+  pub moved-spelled : (policy : Policy) (l : Link) (left : Held Place) → EndsAt policy s.held left l → IsId12 id → IsProper l.file → len (nodes_over left (nodes_in l.file.nodes)) ≤ most_nodes → IsSpelled s → IsSpelled (rebased_to s id version l.file left)
+  moved-spelled policy l left r i proper few w = subst (λ (held : Held Place). IsSpelled (rebased_to s id version l.file held)) (sym r.less.is) (record {
     base = i;
     of_snapshot = record { file = l.file; proper = proper; rows = refl; files = refl };
     added = w.added;

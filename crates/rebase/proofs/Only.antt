@@ -17,7 +17,7 @@ use Rattle.zarr_tree.specs.Conflicts.{without}
 use Rattle.zarr_changes.proofs.EntryLaws.{index_total}
 use Rattle.conflicts.specs.declared.solving.Policy.{Policy}
 use Rattle.zarr_tree.specs.Cases.{number}
-use Rattle.conflicts.specs.Order.{IndexPrecedes, Precedes, Ascend}
+use Rattle.conflicts.specs.Order.{IndexPrecedes, ConflictPrecedes, Ascend}
 use Rattle.conflicts.proofs.Members.{In, in-contains, contains-in}
 use Rattle.rebase.specs.Along.{Link}
 use Rattle.rebase.specs.AlongLaws.{NoneStays, TheseStay, IsHidden, Passes, PassesAll, StaysAt, HidesAt, OnlyLaw}
@@ -35,7 +35,7 @@ index-back None (Some j) p q = q
 index-back (Some i) None p q = p
 index-back (Some i) (Some j) p q = less-back index_cmp index_total i j p q
 
-precedes-back : (x y : Conflict) → Precedes x y → Precedes y x → ⊥
+precedes-back : (x y : Conflict) → ConflictPrecedes x y → ConflictPrecedes y x → ⊥
 precedes-back x y (inl p) (inl q) = less-back path_cmp total x.path y.path p q
 precedes-back x y (inl p) (inr q) = let r = subst (λ (z : List ℕ). path_cmp z y.path ≡ Less) (sym q.0) p in less-back path_cmp total y.path y.path r r
 precedes-back x y (inr p) (inl q) = let r = subst (λ (z : List ℕ). path_cmp z x.path ≡ Less) (sym p.0) q in less-back path_cmp total x.path x.path r r
@@ -63,11 +63,11 @@ ascend-same (x ∷ xs) (y ∷ ys) a b f g =
     same = by_first (f x (inl refl)) (g y (inl refl))
 
     others : (z : Conflict) → In xs z → In (y ∷ ys) z → In ys z
-    others z h (inl e) = let p = subst (Precedes x) (sym (same ∙ e)) (a.0 z (in-contains xs z h)) in absurd (precedes-back x x p p)
+    others z h (inl e) = let p = subst (ConflictPrecedes x) (sym (same ∙ e)) (a.0 z (in-contains xs z h)) in absurd (precedes-back x x p p)
     others z h (inr k) = k
 
     others-back : (z : Conflict) → In ys z → In (x ∷ xs) z → In xs z
-    others-back z h (inl e) = let p = subst (Precedes y) (sym (sym same ∙ e)) (b.0 z (in-contains ys z h)) in absurd (precedes-back y y p p)
+    others-back z h (inl e) = let p = subst (ConflictPrecedes y) (sym (sym same ∙ e)) (b.0 z (in-contains ys z h)) in absurd (precedes-back y y p p)
     others-back z h (inr k) = k
 
 first-in : {A : Type 0} (xs : List A) → xs ≢ [] → (x : A) × Contains xs x

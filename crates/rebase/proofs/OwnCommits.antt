@@ -28,7 +28,7 @@ use Rattle.conflicts.proofs.Facts.{in-row}
 use Rattle.conflicts.proofs.Members.{In, contains-in, filter-in}
 use Rattle.conflicts.proofs.Exactness.{made, exact-law}
 use Rattle.rebase.specs.Along.{Link, Way, Solves, Stays, Hides, sides_at, left_at, solved_at, first_hidden, past, along}
-use Rattle.rebase.specs.AlongLaws.{Follows, IsOwn, FollowsToOwn}
+use Rattle.rebase.specs.AlongLaws.{Follows, IsOwnLink, FollowsToOwn}
 use Rattle.rebase.proofs.Following.{past-solves, past-hides}
 
 pub differ : false ≡ true → ⊥
@@ -43,7 +43,7 @@ abbrev pub DropsNoneAdded : Changes → Type 0
 DropsNoneAdded c = (p : List ℕ) (n : Node) → get c.added p ≡ Some n → c.dropped n.id ≡ false
 
 -- ---- an added node of an own commit is taken
-module _ (c : Changes) (l : Link) (kept : DropsNoneAdded c) (o : IsOwn c l) where
+module _ (c : Changes) (l : Link) (kept : DropsNoneAdded c) (o : IsOwnLink c l) where
   abbrev before : Tree
   before = over o.nodes
 
@@ -90,22 +90,22 @@ module _ (bytes_at : Place → Option (List ℕ)) where
       let stays : In (left_at policy held nodes l) k = filter-in (λ (y : Conflict). case_stays policy y.case y.index) (found (sides held l.lists (over nodes) after)) k among refl in
       subst (λ (ys : List Conflict). In ys k) none stays
 
-  own-left : (policy : Policy) (held : Held Place) (nodes : FinMap path_cmp Node) (l : Link) → DropsNoneAdded (changed held) → IsOwn (changed held) l → ¬ (left_at policy held nodes l ≡ [])
+  own-left : (policy : Policy) (held : Held Place) (nodes : FinMap path_cmp Node) (l : Link) → DropsNoneAdded (changed held) → IsOwnLink (changed held) l → ¬ (left_at policy held nodes l ≡ [])
   own-left policy held nodes l kept o = taken-left policy held nodes l o.path (own-taken (changed held) l kept o)
 
-  pub own-stops : (policy : Policy) (held : Held Place) (nodes : FinMap path_cmp Node) (l : Link) (ls : List Link) → DropsNoneAdded (changed held) → IsOwn (changed held) l → along policy held nodes (l ∷ ls) ≡ Stays l.file.id (left_at policy held nodes l)
+  pub own-stops : (policy : Policy) (held : Held Place) (nodes : FinMap path_cmp Node) (l : Link) (ls : List Link) → DropsNoneAdded (changed held) → IsOwnLink (changed held) l → along policy held nodes (l ∷ ls) ≡ Stays l.file.id (left_at policy held nodes l)
   unfolding along
   own-stops policy held nodes l ls kept o =
       stays-first l.file.id (left_at policy held nodes l) (first_hidden (nodes_in l.file.nodes) held.metas) (along policy (solved_at policy held nodes l) (nodes_in l.file.nodes) ls) (own-left policy held nodes l kept o)
 
   -- what is own doesn't look at entries
-  own-out : (held : Held Place) (out : List (Id8 × List ℕ)) (l : Link) → IsOwn (changed held) l → IsOwn (changed (without_chunks held out)) l
+  own-out : (held : Held Place) (out : List (Id8 × List ℕ)) (l : Link) → IsOwnLink (changed held) l → IsOwnLink (changed (without_chunks held out)) l
   own-out held out l o = record { path = o.path; node = o.node; adds = o.adds; other = o.other; added = o.added; dropped = o.dropped; nodes = o.nodes; is = o.is }
 
   abbrev NotOwn : Held Place → Link → Type 0
-  NotOwn held l = ¬ IsOwn (changed held) l
+  NotOwn held l = ¬ IsOwnLink (changed held) l
 
-  pub none-own : (policy : Policy) (held left : Held Place) (nodes : FinMap path_cmp Node) (links : List Link) → DropsNoneAdded (changed held) → along policy held nodes links ≡ Solves left → All (λ (l : Link). ¬ IsOwn (changed held) l) links
+  pub none-own : (policy : Policy) (held left : Held Place) (nodes : FinMap path_cmp Node) (links : List Link) → DropsNoneAdded (changed held) → along policy held nodes links ≡ Solves left → All (λ (l : Link). ¬ IsOwnLink (changed held) l) links
   unfolding along
   none-own policy held left nodes [] kept e = All-nil (NotOwn held)
   none-own policy held left nodes (l ∷ ls) kept e =
@@ -123,7 +123,7 @@ module _ (bytes_at : Place → Option (List ℕ)) where
       chunks-alone policy (without_chunks held (out_at policy held nodes l)) left (nodes_in l.file.nodes) ls g.goes_on
 
   -- where a log hides a node, it is one before an own commit
-  pub hides-before : (policy : Policy) (held : Held Place) (nodes : FinMap path_cmp Node) (first : List Link) (l : Link) (ls : List Link) (at : Id12) (node : Id8) → DropsNoneAdded (changed held) → IsOwn (changed held) l
+  pub hides-before : (policy : Policy) (held : Held Place) (nodes : FinMap path_cmp Node) (first : List Link) (l : Link) (ls : List Link) (at : Id12) (node : Id8) → DropsNoneAdded (changed held) → IsOwnLink (changed held) l
       → along policy held nodes (first ++ l ∷ ls) ≡ Hides at node → along policy held nodes first ≡ Hides at node
   unfolding along
   hides-before policy held nodes [] l ls at node kept o e = let stays = sym (own-stops policy held nodes l ls kept o) ∙ e in absurd (cc stays)
@@ -138,23 +138,23 @@ module _ (bytes_at : Place → Option (List ℕ)) where
 
   -- a snapshot of the same session
   pub held-own : (held other : Held Place) (nodes : FinMap path_cmp Node) (l : Link) (p : List ℕ) (n : Node) → get held.added p ≡ Some n → other.added ≡ held.added → other.dropped ≡ held.dropped
-      → nodes_in l.file.nodes ≡ nodes_over other nodes → IsOwn (changed held) l
+      → nodes_in l.file.nodes ≡ nodes_over other nodes → IsOwnLink (changed held) l
   held-own held other nodes l p n adds added dropped is = record { path = p; node = n; adds = adds; other = changed other; added = added; dropped = ap (λ (ids : List Id8). lists ids) dropped; nodes = nodes; is = is }
 
 -- ---- up to an own commit
 -- where none is own, all follow
-pub plain-all : (c : Changes) (t u : Tree) (links : List Link) → FollowsToOwn c t links u → All (λ (l : Link). ¬ IsOwn c l) links → Follows c t links u
+pub plain-all : (c : Changes) (t u : Tree) (links : List Link) → FollowsToOwn c t links u → All (λ (l : Link). ¬ IsOwnLink c l) links → Follows c t links u
 unfolding Follows FollowsToOwn
 plain-all c t u [] f a = f
-plain-all c t u (l ∷ ls) (inl o) a = absurd (All-head (λ (k : Link). ¬ IsOwn c k) l ls a o)
-plain-all c t u (l ∷ ls) (inr f) a = (f.0, f.1, f.2, f.3, f.4, plain-all c (apply f.0 t) u ls f.5 (All-tail (λ (k : Link). ¬ IsOwn c k) l ls a))
+plain-all c t u (l ∷ ls) (inl o) a = absurd (All-head (λ (k : Link). ¬ IsOwnLink c k) l ls a o)
+plain-all c t u (l ∷ ls) (inr f) a = (f.0, f.1, f.2, f.3, f.4, plain-all c (apply f.0 t) u ls f.5 (All-tail (λ (k : Link). ¬ IsOwnLink c k) l ls a))
 
 -- the first ones follow, and then comes an own one, or none
 pub record ToOwn (c : Changes) (t : Tree) (links : List Link) : Type 0 where
   pub first : List Link
   pub end : Tree
   pub follows : Follows c t first end
-  pub then : (links ≡ first) ⊎ ((l : Link) × (ls : List Link) × (links ≡ first ++ l ∷ ls) × IsOwn c l)
+  pub then : (links ≡ first) ⊎ ((l : Link) × (ls : List Link) × (links ≡ first ++ l ∷ ls) × IsOwnLink c l)
 
 pub to-own : (c : Changes) (t u : Tree) (links : List Link) → FollowsToOwn c t links u → ToOwn c t links
 unfolding Follows FollowsToOwn

@@ -19,13 +19,13 @@ use Rattle.rebase.specs.declared.machine.Rebased.TheVariants.{OnHead, UpToDate}
 use Rattle.rebase.specs.Along.{Link, along}
 use Rattle.rebase.specs.Laws.{OwnsOn}
 use Rattle.rebase.specs.Rebasing.{rebase_program}
-use Rattle.rebase.specs.Telling.{HasMoved, WasUpToDate, RebaseTells}
+use Rattle.rebase.specs.Telling.{CameToHead, WasUpToDate, RebaseTells}
 use Rattle.rebase.proofs.Moving.{EndsAt, way-ends}
 use Rattle.rebase.proofs.Saying.{rebase-leads}
 
 module _ (ids : AnyIds) (client : ℕ) (start : List Event) where
   -- a rebase gives up entries alone, and draws nothing
-  moved-owns : (policy : Policy) (s t : SessionState) (count : ℕ) (origin journal : List Event) → HasMoved client policy s t count origin journal → Owns ids client s start journal → Owns ids client t start journal
+  moved-owns : (policy : Policy) (s t : SessionState) (count : ℕ) (origin journal : List Event) → CameToHead client policy s t count origin journal → Owns ids client s start journal → Owns ids client t start journal
   moved-owns policy s t count origin journal m o =
       let last : Link = record { file = m.snap; lists = m.solved.lists } in
       let ends : EndsAt policy s.held m.held last = way-ends policy s.held m.held (base_nodes s) m.solved.before last (ap (λ (ls : List Link). along policy s.held (base_nodes s) ls) (sym m.solved.last) ∙ m.solved.solved) in

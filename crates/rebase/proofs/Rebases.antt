@@ -42,7 +42,7 @@ use Rattle.rebase.specs.declared.rebasing.Rebasing.TheVariants as state
 use Rattle.rebase.specs.declared.machine.Rebased.{Rebased}
 use Rattle.rebase.specs.declared.machine.Rebased.TheVariants.{UpToDate}
 use Rattle.rebase.specs.Along.{Link, solved_at, first_hidden}
-use Rattle.rebase.specs.Rebasing.{Commits, head_of, walk_down, if_solved, solve_link, solve_program, on_head, over_commits, after_ref, rebase_program, walk_rest, solving_rest, nodes_before, rebasing_rest, with_session}
+use Rattle.rebase.specs.Rebasing.{CommitsSince, head_of, walk_down, if_solved, solve_link, solve_program, on_head, over_commits, after_ref, rebase_program, walk_rest, solving_rest, nodes_before, rebasing_rest, with_session}
 use Rattle.rebase.specs.inside.Working.{parent_behind, walk_behind, commits_behind, lists_behind, Clears}
 
 -- ---- programs
@@ -76,7 +76,7 @@ state-over policy (Some s) (state.Snapshot w) e = absurd (cc)
 state-over policy (Some s) (state.Log l) e = absurd (cc)
 
 -- ---- the walk
-module _ (base head : Id12) (k : Commits → Program Rebased) where
+module _ (base head : Id12) (k : CommitsSince → Program Rebased) where
   pub walk-asks : (left : ℕ) (above : List SnapshotFile) (id : Id12) → IsAsk (walk_down base head left above id >>= k) → Asks (walk_down base head left above id >>= k) (Get (Snapshot id))
   unfolding walk_down
   walk-asks zero above id i = absurd i

@@ -38,15 +38,15 @@ use Rattle.store_api.proofs.Telling.{get-had}
 use Rattle.repo_read.specs.declared.answers.Resolved.{Resolved}
 use Rattle.repo_read.specs.Answers.{at_key, ref_told, resolved_at}
 use Rattle.repo_read.specs.Chains.{most_snapshots}
-use Rattle.session.specs.Sessions.{SessionState, branch_of, writes, origin_at, base_nodes, moved_to}
+use Rattle.session.specs.Sessions.{SessionState, branch_of, writes, origin_at, base_nodes, rebased_to}
 use Rattle.commit_path.specs.Opened.{IsOpened}
 use Rattle.commit_path.specs.Spelled.{IsSpelled}
 use Rattle.commit_path.proofs.Knowing.{IsOpened-append}
 use Rattle.rebase.specs.declared.machine.Rebased.{Rebased}
 use Rattle.rebase.specs.declared.machine.Rebased.TheVariants.{OnHead, UpToDate}
 use Rattle.rebase.specs.Along.{Link}
-use Rattle.rebase.specs.Laws.{GoesOn}
-use Rattle.rebase.specs.Rebasing.{Commits, head_of, walk_down, solve_program, on_head, over_commits, after_ref, rebase_program}
+use Rattle.rebase.specs.Laws.{CanGoOn}
+use Rattle.rebase.specs.Rebasing.{CommitsSince, head_of, walk_down, solve_program, on_head, over_commits, after_ref, rebase_program}
 use Rattle.rebase.specs.Telling.{IsOfRebase, RebaseSays, RebaseTells, WereSolved, way_of}
 use Rattle.repo_read.proofs.Own.{MadeGets-none, MadeGets-get}
 use Rattle.repo_read.proofs.Replies.{got-cases}
@@ -61,12 +61,12 @@ use Rattle.rebase.proofs.Moving.{HasNamed, HasNamed-append, way-ends, same-spell
 head-gets : (s : SessionState) (named : Resolved) (count : ℕ) (f : SnapshotFile) (r : Result (Held Place) Refusal) → Gets (on_answer (on_head s named count f) r)
 head-gets s named count f (Ok held) = by_test (nat_lt most_nodes (len (nodes_over held (nodes_in f.nodes))))
   where
-    by_test : (b : Bool) → Gets (cond b (Done (Err (R.Edit E.Full))) (Done (Ok (OnHead (moved_to s named.id named.version.0 f held) count))))
+    by_test : (b : Bool) → Gets (cond b (Done (Err (R.Edit E.Full))) (Done (Ok (OnHead (rebased_to s named.id named.version.0 f held) count))))
     by_test true = done-gets (Err (R.Edit E.Full))
-    by_test false = done-gets (Ok (OnHead (moved_to s named.id named.version.0 f held) count))
+    by_test false = done-gets (Ok (OnHead (rebased_to s named.id named.version.0 f held) count))
 head-gets s named count f (Err why) = done-gets (Err why)
 
-commits-gets : (policy : Policy) (s : SessionState) (named : Resolved) (r : Result Commits Refusal) → Gets (on_answer (over_commits policy s named) r)
+commits-gets : (policy : Policy) (s : SessionState) (named : Resolved) (r : Result CommitsSince Refusal) → Gets (on_answer (over_commits policy s named) r)
 commits-gets policy s named (Ok c) =
     bind-gets (solve_program policy s.held (base_nodes s) (c.oldest ∷ c.later)) (on_answer (on_head s named (length c.later + 1) (head_of c.oldest c.later))) (solve-gets policy s.held (base_nodes s) (c.oldest ∷ c.later))
     (head-gets s named (length c.later + 1) (head_of c.oldest c.later))
@@ -114,7 +114,7 @@ count-links links f fs e = let n : length (files_of links) ≡ suc (length fs) =
 module _ (reference : RefLaw) (law : SnapshotLaw) (by : Caller) (policy : Policy) (s : SessionState) (start : List Event) where
   -- what it says, and that its session goes on
   abbrev Ends : Result Rebased Refusal → List Event → Type 0
-  Ends r h = RebaseSays by.number policy s start r h × (IsSpelled s → IsOpened s h → GoesOn r h)
+  Ends r h = RebaseSays by.number policy s start r h × (IsSpelled s → IsOpened s h → CanGoOn r h)
 
   module _ (named : Resolved) where
     -- where the branch's snapshot was read
@@ -142,7 +142,7 @@ module _ (reference : RefLaw) (law : SnapshotLaw) (by : Caller) (policy : Policy
         over : (n : ℕ) → nat_lt most_nodes n ≡ true → most_nodes < n
         over n e = grind (arith, nat_tests)
 
-        by_test : (b : Bool) → nat_lt most_nodes (len (nodes_over held (nodes_in (head_of f fs).nodes))) ≡ b → Leads Ends by (cond b (Done (Err (R.Edit E.Full))) (Done (Ok (OnHead (moved_to s named.id named.version.0 (head_of f fs) held) (length fs + 1))))) h
+        by_test : (b : Bool) → nat_lt most_nodes (len (nodes_over held (nodes_in (head_of f fs).nodes))) ≡ b → Leads Ends by (cond b (Done (Err (R.Edit E.Full))) (Done (Ok (OnHead (rebased_to s named.id named.version.0 (head_of f fs) held) (length fs + 1))))) h
         by_test true e = (record { head = named.id; version = named.version; count = length fs + 1; snap = head_of f fs; held = held; solved = w; many = over (len (nodes_over held (nodes_in (head_of f fs).nodes))) e }, λ spelled opened. tt)
         by_test false e = (
           record { head = named.id; version = named.version; snap = head_of f fs; held = held; solved = w; few = fits (len (nodes_over held (nodes_in (head_of f fs).nodes))) e; becomes = refl },
@@ -167,7 +167,7 @@ module _ (reference : RefLaw) (law : SnapshotLaw) (by : Caller) (policy : Policy
         refused R.StoreFault t = (t, λ spelled opened. tt)
         refused _ t = absurd t
 
-    commits-end : (r : Result Commits Refusal) (h : List Event) → WalkTells by s named.id named.version start r h → HasNamed (branch_of s) named.version.0 named.id h → Leads Ends by (on_answer (over_commits policy s named) r) h
+    commits-end : (r : Result CommitsSince Refusal) (h : List Event) → WalkTells by s named.id named.version start r h → HasNamed (branch_of s) named.version.0 named.id h → Leads Ends by (on_answer (over_commits policy s named) r) h
     unfolding Leads
     commits-end (Ok c) h t n =
         Leads-bind (λ r j. SolveTells by policy s named.id named.version start (c.oldest ∷ c.later) r j × Knows (head_of c.oldest c.later) j) Ends by (solve_program policy s.held (base_nodes s) (c.oldest ∷ c.later)) (on_answer (on_head s named (length c.later + 1) (head_of c.oldest c.later))) h
@@ -233,7 +233,7 @@ module _ (reference : RefLaw) (law : SnapshotLaw) (by : Caller) (policy : Policy
       (Leads-weaker Ends (RebaseSays by.number policy s start) (λ r h q. q.0) by (rebase_program policy s) start rebase-ends)
       (gets-hold (MadeGets by.number start) by (MadeGets-get by start) (rebase_program policy s) start (rebase-gets policy s) (MadeGets-none by.number start))
 
-  pub rebase-goes_on : IsSpelled s → IsOpened s start → Leads GoesOn by (rebase_program policy s) start
+  pub rebase-goes_on : IsSpelled s → IsOpened s start → Leads CanGoOn by (rebase_program policy s) start
   rebase-goes_on spelled opened =
-      Leads-weaker (λ r h. Ends r h × IsOpened s h) GoesOn (λ r h q. q.0.1 spelled q.1) by (rebase_program policy s) start
+      Leads-weaker (λ r h. Ends r h × IsOpened s h) CanGoOn (λ r h q. q.0.1 spelled q.1) by (rebase_program policy s) start
       (gets-leave (IsOpened s) (IsOpened-append s) Ends by (rebase_program policy s) start (rebase-gets policy s) opened rebase-ends)

@@ -5,13 +5,13 @@ use Rattle.std.proofs.lemmas.Bool.Decides.{nat_tests}
 use Rattle.std.specs.List.{filter}
 use Rattle.ice_ids.specs.declared.Id8.{Id8}
 use Rattle.manifest_file.specs.declared.manifest.Place.{Place}
-use Rattle.zarr_tree.specs.Held.{Held, Entry}
+use Rattle.zarr_tree.specs.Held.{Held, HeldEntry}
 use Rattle.zarr_changes.specs.Edits.{lists_key, without_chunks}
 
 -- ---- entries
-nothing-out : (rows : List (Entry Place)) → filter (λ (row : Entry Place). not (lists_key [] row.0 row.1)) rows ≡ rows
+nothing-out : (rows : List (HeldEntry Place)) → filter (λ (row : HeldEntry Place). not (lists_key [] row.0 row.1)) rows ≡ rows
 nothing-out [] = refl
-nothing-out (row ∷ rows) = ap (λ (rs : List (Entry Place)). row ∷ rs) (nothing-out rows)
+nothing-out (row ∷ rows) = ap (λ (rs : List (HeldEntry Place)). row ∷ rs) (nothing-out rows)
 
 pub no-length : {A : Type 0} (xs : List A) → (length xs == 0) ≡ true → xs ≡ []
 no-length [] e = refl
@@ -19,7 +19,7 @@ no-length (x ∷ xs) e = let none : length (x ∷ xs) ≡ 0 = eqb-true _ _ e in 
 
 -- without no entries, all is held
 pub all-held : (held : Held Place) (out : List (Id8 × List ℕ)) → out ≡ [] → held ≡ without_chunks held out
-all-held held out e = ap (λ (rows : List (Entry Place)). record held { chunks = rows }) (sym (nothing-out held.chunks)) ∙ ap (λ (xs : List (Id8 × List ℕ)). without_chunks held xs) (sym e)
+all-held held out e = ap (λ (rows : List (HeldEntry Place)). record held { chunks = rows }) (sym (nothing-out held.chunks)) ∙ ap (λ (xs : List (Id8 × List ℕ)). without_chunks held xs) (sym e)
 
 -- ---- nodes
 -- one node more than a tree may have is too many

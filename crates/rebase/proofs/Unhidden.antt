@@ -10,7 +10,7 @@ use Rattle.zarr_tree.specs.declared.edit.Frozen.{Frozen}
 use Rattle.zarr_tree.specs.Nodes.{Node, frozen_change}
 use Rattle.zarr_tree.specs.Trees.{Tree}
 use Rattle.zarr_tree.specs.Changes.{Changes, IsNormal}
-use Rattle.zarr_tree.specs.Held.{Held, Entry, meta_in}
+use Rattle.zarr_tree.specs.Held.{Held, HeldEntry, meta_in}
 use Rattle.zarr_tree.proofs.Apply.{both, first, second, id-true, id-refl}
 use Rattle.zarr_changes.specs.Edits.{without_chunks}
 use Rattle.conflicts.proofs.Members.{In, any-in, in-any}
@@ -98,4 +98,4 @@ all-stay [] = refl
 all-stay (x ∷ xs) = ap (λ ys. x ∷ ys) (all-stay xs)
 
 pub none-out : {P : Type 0} (h : Held P) → without_chunks h [] ≡ h
-none-out {P} h = λ z. record h { chunks = all-stay {A = Entry P} h.chunks z }
+none-out {P} h = λ z. record h { chunks = all-stay {A = HeldEntry P} h.chunks z }

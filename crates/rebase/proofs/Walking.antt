@@ -31,7 +31,7 @@ use Rattle.repo_read.specs.Answers.{at_key, snapshot_told}
 use Rattle.repo_read.specs.Chains.{most_snapshots}
 use Rattle.session.specs.Sessions.{SessionState, branch_of}
 use Rattle.commit_path.proofs.Knowing.{rows-kept}
-use Rattle.rebase.specs.Rebasing.{Commits, head_of, walk_down}
+use Rattle.rebase.specs.Rebasing.{CommitsSince, head_of, walk_down}
 use Rattle.rebase.specs.Telling.{CameTo, HasEnded, IsOfRebase, Rises, SnapshotIsBad, SnapshotIsMissing, WasTooDeep, WasWalked}
 use Rattle.repo_read.proofs.Own.{MadeGets-get}
 use Rattle.repo_read.proofs.Replies.{got-cases}
@@ -95,14 +95,14 @@ top-next head next f (g ∷ gs) h r t k = t
 
 -- ---- gets alone
 -- the commits from this one on
-abbrev from : SnapshotFile → List SnapshotFile → Commits
+abbrev from : SnapshotFile → List SnapshotFile → CommitsSince
 from f fs = record { oldest = f; later = fs }
 
 end-gets : (base head : Id12) (left : ℕ) (above : List SnapshotFile) (f : SnapshotFile) (parent : Id12) → Gets (walk_down base head left (f ∷ above) parent) → (b : Bool) → Gets (cond b (Done (Ok (from f above))) (walk_down base head left (f ∷ above) parent))
 end-gets base head left above f parent g true = done-gets (Ok (from f above))
 end-gets base head left above f parent g false = g
 
-abbrev behind : (base head : Id12) → (left : ℕ) → (above : List SnapshotFile) → SnapshotFile → Option Id12 → Program Commits
+abbrev behind : (base head : Id12) → (left : ℕ) → (above : List SnapshotFile) → SnapshotFile → Option Id12 → Program CommitsSince
 behind base head left above f parent = elim parent [
   | Some parent ↦ cond (same_id12 parent base) (Done (Ok (from f above))) (walk_down base head left (f ∷ above) parent)
   | None ↦ Done (Err (R.NotAncestor head))
@@ -123,13 +123,13 @@ walk-gets base head (suc left) above id = (tt, λ reply. told-gets base head lef
 
 -- ---- what is told
 -- the commits above the base, of which the last one is the branch's snapshot
-pub record AreCommits (by : Caller) (s : SessionState) (head : Id12) (version : Version) (start : List Event) (c : Commits) (h : List Event) : Type 0 where
+pub record AreCommits (by : Caller) (s : SessionState) (head : Id12) (version : Version) (start : List Event) (c : CommitsSince) (h : List Event) : Type 0 where
   pub ref : WasRef by.number (Branch (branch_of s)) version head start h
   pub walked : WasWalked by.number s.base s.base head (c.oldest ∷ c.later) start h
   pub gets : MadeGets by.number start h
   pub top : IsHead head (head_of c.oldest c.later) h
 
-abbrev pub WalkTells : (by : Caller) → SessionState → (head : Id12) → Version → (start : List Event) → Result Commits Refusal → List Event → Type 0
+abbrev pub WalkTells : (by : Caller) → SessionState → (head : Id12) → Version → (start : List Event) → Result CommitsSince Refusal → List Event → Type 0
 WalkTells by s head version start (Ok c) h = AreCommits by s head version start c h
 WalkTells by s head version start (Err (R.Missing key)) h = SnapshotIsMissing by.number s key start h
 WalkTells by s head version start (Err (R.BadFile key bad)) h = SnapshotIsBad by.number s key bad start h
@@ -139,7 +139,7 @@ WalkTells by s head version start (Err R.StoreFault) h = WasFailure by.number (G
 WalkTells by s head version start (Err _) h = ⊥
 
 module _ (law : SnapshotLaw) (by : Caller) (s : SessionState) (head : Id12) (version : Version) (start : List Event) where
-  abbrev Told : Result Commits Refusal → List Event → Type 0
+  abbrev Told : Result CommitsSince Refusal → List Event → Type 0
   Told = WalkTells by s head version start
 
   -- the walk has come to this snapshot

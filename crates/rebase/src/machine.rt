@@ -399,7 +399,7 @@ impl Rebase {
             unreachable!()
         };
         let mut session = writer.into_session();
-        session.move_to(named.id, named.version, head, held);
+        session.rebase_to(named.id, named.version, head, held);
         Ok(Next::Ready(Rebased::OnHead(session, count)))
     }
 }

@@ -27,7 +27,7 @@ use Rattle.repo_read.specs.declared.resolving.At.{At}
 use Rattle.repo_read.specs.declared.resolving.Named.{Named}
 use Rattle.refs_admin.specs.declared.log.LogLine.{LogLine}
 use Rattle.repo_read.specs.Resolving.{alone, tag_told, tombstone_told, tombstone_program, resolve_at_program, no_ref}
-use Rattle.refs_admin.specs.Logs.{line_of, told_lines, refused_now, refused_first, chain_at, log_program}
+use Rattle.refs_admin.specs.LogReading.{line_of, told_lines, refused_now, refused_first, chain_at, chain_log_program}
 use Rattle.repo_read.specs.Naming.{WasResolved, NamingTells, IsNaming}
 use Rattle.refs_admin.specs.LogTelling.{WasWalked, IsOfLog, LogSays, LogTells}
 use Rattle.repo_read.proofs.Own.{MadeGets-none, MadeGets-get}
@@ -109,11 +109,11 @@ named-reads : (at : At) (r : Result Named Refusal) → Reads (on_answer (λ (nam
 named-reads at (Ok named) = chain-reads at named.id
 named-reads at (Err why) = done-reads (Err why)
 
-log-reads : (at : At) → Reads (log_program at)
+log-reads : (at : At) → Reads (chain_log_program at)
 log-reads at = reads-bind (resolve_at_program at) (on_answer (λ (named : Named). chain_at at named.id >>= told_lines)) (naming-reads at) (named-reads at)
 
-pub log-polite : (by : Caller) (at : At) (journal : List Event) → StaysPolite by (log_program at) journal
-log-polite by at journal = reads-polite by (log_program at) journal (log-reads at)
+pub log-polite : (by : Caller) (at : At) (journal : List Event) → StaysPolite by (chain_log_program at) journal
+log-polite by at journal = reads-polite by (chain_log_program at) journal (log-reads at)
 
 -- ---- what is told
 module _ (by : Caller) (at : At) (start : List Event) (named : Named) where
@@ -238,7 +238,7 @@ module _ (by : Caller) (id : Id12) (start : List Event) where
   head-leads zero h g = let c = g.count in absurd (omega (arith, c))
   head-leads (suc left) h g = λ reply new m. head-told left reply h new g m
 
-  id-leads : (h : List Event) → MadeGets by.number start h → Leads (LogSays by.number at start) by (log_program at) h
+  id-leads : (h : List Event) → MadeGets by.number start h → Leads (LogSays by.number at start) by (chain_log_program at) h
   id-leads h c = head-leads most_snapshots h (record { resolved = refl; chain = refl; gets = c; count = refl })
 
 -- ---- the whole
@@ -254,7 +254,7 @@ module _ (by : Caller) (at : At) (start : List Event) (other : (id : Id12) → a
       refused R.StoreFault t = failure-as by.number (GetsOf (IsNaming at)) (IsOfLog at) start h (λ op k. inl k) t
       refused _ t = absurd t
 
-log-says : (by : Caller) (at : At) (journal : List Event) → Leads (LogSays by.number at journal) by (log_program at) journal
+log-says : (by : Caller) (at : At) (journal : List Event) → Leads (LogSays by.number at journal) by (chain_log_program at) journal
 log-says by (At.Branch name) journal =
     Leads-bind (NamingTells by.number (At.Branch name) journal) (LogSays by.number (At.Branch name) journal) by (resolve_at_program (At.Branch name)) (on_answer (λ (named : Named). chain_program named.id >>= told_lines)) journal
     (naming-leads by journal (At.Branch name) journal (MadeGets-none by.number journal)) (named-leads by (At.Branch name) journal (λ id e. cc))
@@ -264,5 +264,5 @@ log-says by (At.Tag name) journal =
 log-says by (At.Snapshot id) journal = id-leads by id journal journal (MadeGets-none by.number journal)
 
 -- and it makes gets alone
-pub log-leads : (by : Caller) (at : At) (journal : List Event) → Leads (LogTells by.number at journal) by (log_program at) journal
-log-leads by at journal = reads-gets (LogSays by.number at journal) by journal (log_program at) journal (log-reads at) (MadeGets-none by.number journal) (log-says by at journal)
+pub log-leads : (by : Caller) (at : At) (journal : List Event) → Leads (LogTells by.number at journal) by (chain_log_program at) journal
+log-leads by at journal = reads-gets (LogSays by.number at journal) by journal (chain_log_program at) journal (log-reads at) (MadeGets-none by.number journal) (log-says by at journal)

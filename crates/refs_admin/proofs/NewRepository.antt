@@ -20,7 +20,7 @@ use Rattle.store_api.specs.Running.{Program, on_answer, StaysPolite}
 use Rattle.store_api.proofs.Puts.{put-told, snapshot-polite, main-polite}
 use Rattle.store_api.proofs.Happening.{HasOwn-makes, new-present, stands-as}
 use Rattle.refs_admin.specs.Branches.{created}
-use Rattle.refs_admin.specs.Beginning.{placed, put_main, init_program}
+use Rattle.refs_admin.specs.NewRepository.{placed, put_main, init_program}
 use Rattle.refs_admin.specs.InitTelling.{HasInitial, puts_initial, puts_main, InitTells}
 use Rattle.repo_read.proofs.Own.{Since, Since-none, Since-makes, own-made}
 use Rattle.repo_read.proofs.Replies.{new-cases, new-done}

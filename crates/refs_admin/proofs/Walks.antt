@@ -29,7 +29,7 @@ use Rattle.refs_admin.specs.declared.log.Logging.TheVariants as L
 use Rattle.refs_admin.specs.declared.log.LogLine.{LogLine}
 use Rattle.repo_read.specs.Resolving.{resolve_at_program}
 use Rattle.repo_read.specs.Resolving.{no_ref}
-use Rattle.refs_admin.specs.Logs.{line_of, told_lines, refused_now, refused_first, log_program}
+use Rattle.refs_admin.specs.LogReading.{line_of, told_lines, refused_now, refused_first, chain_log_program}
 use Rattle.repo_read.specs.Seeking.{resolution_at}
 use Rattle.refs_admin.specs.inside.Working.{log_walk, walk_behind, walk_rest, logging_rest, logging_left, first_rest}
 
@@ -227,7 +227,7 @@ first-bind f h (Ask op k) = ap (λ (g : Reply → Program _). Ask op g) (fun_ext
 named-lines : (at : At) → (resolve_at_program at >>= λ named. log_walk most_snapshots [] named.id) ≡ (resolve_at_program at >>= λ named. chain_program named.id >>= told_lines)
 named-lines at = ap (λ (g : Named → Program (List LogLine)). resolve_at_program at >>= g) (fun_ext (λ named. walk-lines most_snapshots [] named.id))
 
-pub log-begins : (at : At) → first_rest (resolution_at at) ≡ log_program at
+pub log-begins : (at : At) → first_rest (resolution_at at) ≡ chain_log_program at
 log-begins (At.Branch name) = named-lines (At.Branch name)
 log-begins (At.Tag name) = named-lines (At.Tag name)
 log-begins (At.Snapshot id) = ap (refused_first no_ref) (walk-lines most_snapshots [] id) ∙ first-bind no_ref (map line_of) (chain_program id)
@@ -242,5 +242,5 @@ asks-at (At.Branch name) = tt
 asks-at (At.Tag name) = tt
 asks-at (At.Snapshot id) = first-is-ask no_ref (log_walk most_snapshots [] id) (walk-is-ask most_snapshots [] id (omega arith))
 
-pub log-asks : (at : At) → IsAsk (log_program at)
+pub log-asks : (at : At) → IsAsk (chain_log_program at)
 log-asks at = subst (λ (p : Program (List LogLine)). IsAsk p) (log-begins at) (asks-at at)

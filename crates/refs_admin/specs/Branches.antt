@@ -1,5 +1,5 @@
--- The programs that make, move and drop branches. (Icechunk specification version 1, "Reference Files"; which refusals come, and
--- that `main` is kept, is own.)
+-- The programs that make, move and drop branches. (Icechunk specification version 1, "Reference
+-- Files"; which refusals come, and that `main` is kept, is own.)
 use Rattle.std.specs.Prelude.{ℕ, List, if◌then◌else◌, Result, Ok, Err}
 use Rattle.ice_base.specs.Names.{main_name, same_name}
 use Rattle.ice_ids.specs.declared.Id12.{Id12}
@@ -9,12 +9,16 @@ use Rattle.object_store.specs.declared.keys.Why.TheVariants.{Create, Reset, Drop
 use Rattle.object_store.specs.declared.events.Version.{Version}
 use Rattle.object_store.specs.declared.events.Op.TheVariants.{PutNew, PutOver, RemoveAt}
 use Rattle.object_store.specs.declared.events.New.TheVariants.{Done as New_done, Present}
-use Rattle.object_store.specs.declared.events.Over.TheVariants.{Done as Over_done, Moved as Over_moved}
-use Rattle.object_store.specs.declared.events.GoneAt.TheVariants.{Done as Gone_done, Moved as Gone_moved}
+use Rattle.object_store.specs.declared.events.Over.TheVariants.{Done as Over_done}
+use Rattle.object_store.specs.declared.events.Over.TheVariants.{Moved as Over_moved}
+use Rattle.object_store.specs.declared.events.GoneAt.TheVariants.{Done as Gone_done}
+use Rattle.object_store.specs.declared.events.GoneAt.TheVariants.{Moved as Gone_moved}
 use Rattle.object_store.specs.declared.events.Reply.{Reply}
 use Rattle.object_store.specs.declared.events.Reply.TheVariants.{New, Over, GoneAt}
 use Rattle.store_api.specs.declared.machines.Refusal.{Refusal}
-use Rattle.store_api.specs.declared.machines.Refusal.TheVariants.{NoRef, BadFile, NoSnapshot, RefExists, MainKept, Moved, StoreFault, NoMemory}
+use Rattle.store_api.specs.declared.machines.Refusal.TheVariants.{NoRef, BadFile, NoSnapshot}
+use Rattle.store_api.specs.declared.machines.Refusal.TheVariants.{RefExists, MainKept, Moved}
+use Rattle.store_api.specs.declared.machines.Refusal.TheVariants.{StoreFault, NoMemory}
 use Rattle.store_api.specs.Program.{Done, Ask}
 use Rattle.store_api.specs.Running.{Program, ◌>>=◌}
 use Rattle.repo_read.specs.Programs.{resolve_program}
@@ -31,7 +35,8 @@ created _ = Err StoreFault
 
 -- puts the branch where it is absent
 abbrev pub put_branch : (name : List ℕ) → Id12 → Program (Unit {0})
-put_branch name id = Ask (PutNew (Branch name) (ref_bytes id) Create) (λ reply. Done (created reply))
+put_branch name id =
+    Ask (PutNew (Branch name) (ref_bytes id) Create) (λ reply. Done (created reply))
 
 -- gets the snapshot first
 abbrev pub create_program : (name : List ℕ) → Id12 → Program (Unit {0})
@@ -52,7 +57,8 @@ moved _ = Err StoreFault
 
 -- puts the branch over the version that was read
 abbrev pub put_over : (name : List ℕ) → Id12 → Version → Program (Unit {0})
-put_over name id version = Ask (PutOver (Branch name) (ref_bytes id) version Reset) (λ reply. Done (moved reply))
+put_over name id version =
+    Ask (PutOver (Branch name) (ref_bytes id) version Reset) (λ reply. Done (moved reply))
 
 -- gets the snapshot first
 abbrev pub move_program : (name : List ℕ) → Id12 → Version → Program (Unit {0})

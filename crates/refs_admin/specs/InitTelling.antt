@@ -1,4 +1,5 @@
--- What the answer to a new repository says of the journal. (Icechunk specification version 1, "Initialize New Repository".)
+-- What the answer to a new repository says of the journal. (Icechunk specification version
+-- 1, "Initialize New Repository".)
 use Rattle.std.specs.Prelude.{◌≡◌, ◌⊎◌, ℕ, Bool, List, length, None, Result, Ok, Err}
 use Rattle.ice_base.specs.Names.{main_name}
 use Rattle.ice_ids.specs.Text.{initial_id}
@@ -30,7 +31,8 @@ pub record HasInitial (client : ℕ) (start journal : List Event) : Type 0 where
 abbrev pub puts_main : Op
 puts_main = PutNew (Branch main_name) (ref_bytes initial_id) why.Init
 
--- `main` was absent, and the client's own put made it, with the initial snapshot, which the client had put where it was absent.
+-- `main` was absent, and the client's own put made it, with the initial snapshot, which the
+-- client had put where it was absent.
 pub record RepositoryWasMade (client : ℕ) (start journal : List Event) : Type 0 where
   pub initial : HasInitial client start journal
   pub version : Version

@@ -1,8 +1,8 @@
 pub mod Targets
 pub mod Branches
 pub mod Tags
-pub mod Logs
-pub mod Beginning
+pub mod LogReading
+pub mod NewRepository
 pub mod Telling
 pub mod BranchTelling
 pub mod TagTelling

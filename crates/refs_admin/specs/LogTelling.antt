@@ -1,5 +1,7 @@
--- What the answer to a log says of the journal. (Icechunk specification version 1, "Snapshots": each names its parent.)
-use Rattle.std.specs.Prelude.{◌≡◌, ◌⊎◌, ℕ, ◌<◌, List, length, map, Option, Some, None, Result, Ok, Err}
+-- What the answer to a log says of the journal. (Icechunk specification version 1,
+-- "Snapshots": each names its parent.)
+use Rattle.std.specs.Prelude.{◌≡◌, ◌⊎◌, ℕ, ◌<◌, List, length, map}
+use Rattle.std.specs.Prelude.{Option, Some, None, Result, Ok, Err}
 use Rattle.ice_ids.specs.declared.Id12.{Id12}
 use Rattle.snapshot_file.specs.declared.snapshot.SnapshotFile.{SnapshotFile}
 use Rattle.repo_objects.specs.declared.bad_objects.Bad.{Bad}
@@ -15,19 +17,22 @@ use Rattle.store_api.specs.Telling.{GetsOf, MadeGets, SnapshotWasBad, WasAbsent,
 use Rattle.repo_read.specs.declared.resolving.At.{At}
 use Rattle.repo_read.specs.declared.resolving.Named.{Named}
 use Rattle.refs_admin.specs.declared.log.LogLine.{LogLine}
-use Rattle.refs_admin.specs.Logs.{line_of}
+use Rattle.refs_admin.specs.LogReading.{line_of}
 use Rattle.repo_read.specs.Naming.{WasResolved, WasNothing, WasUnnamed, IsNaming}
 
 -- ---- a log
--- what was named, and the snapshots from there along the parents that were read, down to where they lead
-pub record WasWalked (client : ℕ) (at : At) (to : Option Id12) (start journal : List Event) : Type 0 where
+-- what was named, and the snapshots from there along the parents that
+-- were read, down to where they lead
+pub record WasWalked (client : ℕ) (at : At) (to : Option Id12)
+    (start journal : List Event) : Type 0 where
   pub named : Named
   pub resolved : WasResolved client at named start journal
   pub seen : List SnapshotFile
   pub chain : Leading client (Some named.id) seen to start journal
 
 -- the whole chain was read, and these are its lines
-pub record LogWasRead (client : ℕ) (at : At) (lines : List LogLine) (start journal : List Event) : Type 0 where
+pub record LogWasRead (client : ℕ) (at : At) (lines : List LogLine)
+    (start journal : List Event) : Type 0 where
   pub walked : WasWalked client at None start journal
   pub lines_are : lines ≡ map line_of walked.seen
 
@@ -46,7 +51,8 @@ pub record ChainIsCut (client : ℕ) (at : At) (key : Key) (start journal : List
   pub behind : (id : Id12) → at ≡ At.Snapshot id → 0 < length walked.seen
 
 -- ... or can't be read
-pub record ChainIsBad (client : ℕ) (at : At) (key : Key) (bad : Bad) (start journal : List Event) : Type 0 where
+pub record ChainIsBad (client : ℕ) (at : At) (key : Key) (bad : Bad)
+    (start journal : List Event) : Type 0 where
   pub next : Id12
   pub walked : WasWalked client at (Some next) start journal
   pub unread : SnapshotWasBad client next key bad start journal
@@ -62,13 +68,16 @@ IsOfLog at op = GetsOf (IsNaming at) op ⊎ ((id : Id12) × (op ≡ Get (Snapsho
 
 abbrev pub LogSays : ℕ → At → List Event → Result (List LogLine) Refusal → List Event → Type 0
 LogSays client at start (Ok lines) journal = LogWasRead client at lines start journal
-LogSays client at start (Err R.NoRef) journal = WasNothing client at start journal ⊎ HeadWasAbsent client at start journal
+LogSays client at start (Err R.NoRef) journal =
+    WasNothing client at start journal ⊎ HeadWasAbsent client at start journal
 LogSays client at start (Err (R.Missing key)) journal = ChainIsCut client at key start journal
-LogSays client at start (Err (R.BadFile key bad)) journal = WasUnnamed client at key bad start journal ⊎ ChainIsBad client at key bad start journal
+LogSays client at start (Err (R.BadFile key bad)) journal =
+    WasUnnamed client at key bad start journal ⊎ ChainIsBad client at key bad start journal
 LogSays client at start (Err R.TooDeep) journal = WasTooDeep client at start journal
 LogSays client at start (Err R.StoreFault) journal = WasFailure client (IsOfLog at) start journal
 LogSays client at start (Err _) journal = ⊥
 
 -- What the answer to a log says; the client made gets alone.
 abbrev pub LogTells : ℕ → At → List Event → Result (List LogLine) Refusal → List Event → Type 0
-LogTells client at start result journal = LogSays client at start result journal × MadeGets client start journal
+LogTells client at start result journal =
+    LogSays client at start result journal × MadeGets client start journal

@@ -1,5 +1,5 @@
--- The programs that make and drop tags. (Icechunk specification version 1, "Tags": a tag never moves, it is dropped by a tombstone, and
--- its name isn't used again.)
+-- The programs that make and drop tags. (Icechunk specification version 1, "Tags": a tag never
+-- moves, it is dropped by a tombstone, and its name isn't used again.)
 use Rattle.std.specs.Prelude.{ℕ, List, [], Result, Ok, Err}
 use Rattle.ice_ids.specs.declared.Id12.{Id12}
 use Rattle.ref_file.specs.Refs.{ref_bytes}
@@ -12,7 +12,9 @@ use Rattle.object_store.specs.declared.events.New.TheVariants.{Done as New_done,
 use Rattle.object_store.specs.declared.events.Reply.{Reply}
 use Rattle.object_store.specs.declared.events.Reply.TheVariants.{Got, New}
 use Rattle.store_api.specs.declared.machines.Refusal.{Refusal}
-use Rattle.store_api.specs.declared.machines.Refusal.TheVariants.{NoRef, BadFile, NoSnapshot, RefExists, TagDropped, StoreFault, NoMemory}
+use Rattle.store_api.specs.declared.machines.Refusal.TheVariants.{NoRef, BadFile, NoSnapshot}
+use Rattle.store_api.specs.declared.machines.Refusal.TheVariants.{RefExists, TagDropped}
+use Rattle.store_api.specs.declared.machines.Refusal.TheVariants.{StoreFault, NoMemory}
 use Rattle.store_api.specs.Program.{Done, Ask}
 use Rattle.store_api.specs.Running.{Program, ◌>>=◌}
 use Rattle.repo_read.specs.declared.resolving.At.{At}

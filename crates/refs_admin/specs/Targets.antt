@@ -1,4 +1,5 @@
--- The program that gets the snapshot that a ref is to name. (Icechunk specification version 1, "Reference Files".)
+-- The program that gets the snapshot that a ref is to name. (Icechunk specification
+-- version 1, "Reference Files".)
 use Rattle.std.specs.Prelude.{Result}
 use Rattle.ice_ids.specs.declared.Id12.{Id12}
 use Rattle.snapshot_file.specs.declared.snapshot.SnapshotFile.{SnapshotFile}

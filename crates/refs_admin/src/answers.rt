@@ -3,7 +3,7 @@
 ghost use Rattle.std.specs.Prelude.{◌≡◌, IfErr, IfOk};
 ghost use Rattle.ref_file.specs.Refs.{ref_bytes};
 ghost use Rattle.repo_read.specs.Answers.{Answers};
-ghost use Rattle.store_api.specs.Driving.{bytes_of};
+ghost use Rattle.store_api.specs.Driving.{payload_bytes};
 ghost use Rattle.refs_admin.specs.Targets.{no_snapshot, target_told};
 ghost use Rattle.refs_admin.specs.Branches.{created, moved, dropped};
 ghost use Rattle.refs_admin.specs.Tags.{taken, buried};
@@ -19,7 +19,7 @@ use store_api::{GoneAt, Got, New, Over, Payload, Refusal, Reply, Version};
 
 /// The bytes of a reference, to be put.
 pub(crate) fn reference(alloc: Global, id: Id12) -> Result<Payload<'static>, AllocError>
-    ensures { IfOk result (λ payload. bytes_of payload ≡ ref_bytes id) }
+    ensures { IfOk result (λ payload. payload_bytes payload ≡ ref_bytes id) }
 {
     Ok(Payload::Made(Bytes::of(alloc, &ref_write(id))?))
 }

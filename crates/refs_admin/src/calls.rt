@@ -2,10 +2,10 @@
 
 ghost use Rattle.std.specs.Prelude.{IfErr};
 ghost use Rattle.store_api.specs.Running.{Runs};
-ghost use Rattle.refs_admin.specs.Beginning.{init_program, MayRefuseInit};
+ghost use Rattle.refs_admin.specs.NewRepository.{init_program, MayRefuseInit};
 ghost use Rattle.refs_admin.specs.Branches.{branch_new_program, branch_reset_program, branch_drop_program, MayRefuseNew, MayRefuseReset, MayRefuseDrop};
 ghost use Rattle.refs_admin.specs.Tags.{tag_new_program, tag_drop_program, MayRefuseTag};
-ghost use Rattle.refs_admin.specs.Logs.{log_program, MayRefuseLog};
+ghost use Rattle.refs_admin.specs.LogReading.{chain_log_program, MayRefuseLog};
 ghost use Rattle.repo_read.specs.Programs.{MayRefuseRef};
 
 use crate::{BranchDrop, BranchNew, BranchReset, Init, Log, LogLines, TagDrop, TagNew, refs_law};
@@ -86,7 +86,7 @@ pub fn drop_tag<S: Store>(alloc: Global, name: RefName, store: &mut S) -> Result
 
 /// Reads the log of the chain of the snapshot that a ref or an id names, the first one first.
 pub fn read_log<S: Store>(alloc: Global, at: At, store: &mut S) -> Result<LogLines, Refusal>
-    ensures runs { Runs (S.view store.old) (S.view store.new) (log_program at) result }
+    ensures runs { Runs (S.view store.old) (S.view store.new) (chain_log_program at) result }
     ensures listed { IfErr result MayRefuseLog }
 {
     refs_law();

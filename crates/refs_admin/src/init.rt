@@ -3,8 +3,8 @@
 ghost use Rattle.std.specs.Prelude.{◌≡◌, ◌<◌, ◌≤◌, IfErr, IfOk, IsTrue};
 ghost use Rattle.repo_objects.specs.Laws.{initial_bytes};
 ghost use Rattle.store_api.specs.Program.{IsAsk, NextIsPolite, Steps};
-ghost use Rattle.store_api.specs.Driving.{bytes_of};
-ghost use Rattle.refs_admin.specs.Beginning.{init_program, MayRefuseInit};
+ghost use Rattle.store_api.specs.Driving.{payload_bytes};
+ghost use Rattle.refs_admin.specs.NewRepository.{init_program, MayRefuseInit};
 ghost use Rattle.refs_admin.specs.inside.Working.{init_rest, init_left};
 
 use crate::answers::{created, reference};
@@ -35,7 +35,7 @@ pub struct Init {
 
 /// The file of the initial snapshot.
 fn initial_file(alloc: Global) -> Result<Payload<'static>, AllocError>
-    ensures { IfOk result (λ payload. bytes_of payload ≡ initial_bytes) }
+    ensures { IfOk result (λ payload. payload_bytes payload ≡ initial_bytes) }
 {
     initial_law();
     Ok(Payload::Made(Bytes::of(alloc, &INITIAL_FILE)?))

@@ -7,7 +7,7 @@ ghost use Rattle.store_api.specs.Driving.{Awaits, Took, op_of};
 ghost use Rattle.object_store.specs.declared.events.Op.TheVariants as Op;
 ghost use Rattle.store_api.specs.declared.machines.Refusal.TheVariants as Refusal;
 ghost use Rattle.repo_read.specs.Resolving.{no_ref};
-ghost use Rattle.refs_admin.specs.Logs.{log_program, line_of, MayRefuseLog};
+ghost use Rattle.refs_admin.specs.LogReading.{chain_log_program, line_of, MayRefuseLog};
 ghost use Rattle.repo_read.specs.Seeking.{resolution_left, resolving_left};
 ghost use Rattle.refs_admin.specs.inside.Working.{first_rest, log_rest, log_left, log_walk, logging_left, logging_rest, walk_behind, walk_rest};
 
@@ -144,7 +144,7 @@ impl Machine for Log {
 impl Log {
     /// Before its first operation.
     pub fn new(alloc: Global, at: At) -> Log
-        ensures program { log_rest result ≡ log_program at }
+        ensures program { log_rest result ≡ chain_log_program at }
         ensures few { log_left result ≤ 65538 }
     {
         Log {

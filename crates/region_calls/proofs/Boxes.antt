@@ -41,7 +41,7 @@ use Rattle.region_cells.proofs.WalkLaws.{met_is, met_none, same_length_met}
 use Rattle.array_region.specs.Cells.{cell_number}
 use Rattle.array_region.specs.Planning.{box_count, IsBoxOf}
 use Rattle.array_region.specs.Reading.{Kept, Chunk, Reads, fits, with_value, chunk_kept, read_chunks, read_box, read_array, region_program}
-use Rattle.array_region.proofs.Planned.{IsAt, at_array, IsEdit, no_array, IsRegion, no_box, box_passes, box_of}
+use Rattle.array_region.proofs.Planned.{IsAt, at_array, IsEdit, no_array, IsRegion, refused_box, box_passes, box_of}
 use Rattle.region_calls.specs.Told.{AreCells, RegionTells}
 use Rattle.region_calls.specs.Laws.{RegionLaw}
 use Rattle.region_calls.proofs.Gets.{region_gets}
@@ -195,7 +195,7 @@ module _ (B : BoxLaw) (by : Caller) (s : SessionState) (path from to : List ℕ)
 
     counted_told : (count : Result ℕ Refusal) → box_count array from to ≡ count → Leads (RegionTells s path from to) by (read_box s reads count) journal
     unfolding Leads
-    counted_told (Err why) c = no_box_told why c (no_box array from to why c)
+    counted_told (Err why) c = no_box_told why c (refused_box array from to why c)
     counted_told (Ok count) c =
         let at = at_array s path id array e in
         let box = box_of array from to count (box_passes array from to count (array_has_grid at.node.text array at.is) c) in

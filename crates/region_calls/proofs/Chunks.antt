@@ -35,7 +35,7 @@ use Rattle.store_api.proofs.Telling.{get-had}
 use Rattle.repo_read.specs.Answers.{at_key, manifest_told, object_told}
 use Rattle.repo_read.specs.Programs.{MayRefuseObject}
 use Rattle.session.specs.Sessions.{SessionState, overlay}
-use Rattle.session.specs.Chunks.{found as found_bytes}
+use Rattle.session.specs.Chunks.{found_bytes}
 use Rattle.chunk_calls.specs.Told.{value_of}
 use Rattle.chunk_calls.proofs.Growing.{Surely, Surely-makes}
 use Rattle.chunk_calls.proofs.Gets.{held_of}

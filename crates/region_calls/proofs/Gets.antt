@@ -20,7 +20,7 @@ use Rattle.store_api.specs.Program.{Prog, Done, Ask, bind}
 use Rattle.store_api.specs.Running.{Program, ◌>>=◌, on_answer}
 use Rattle.repo_read.specs.Answers.{at_key, manifest_told, object_told}
 use Rattle.session.specs.Sessions.{SessionState}
-use Rattle.session.specs.Chunks.{found, read_place, read_own}
+use Rattle.session.specs.Chunks.{found_bytes, read_place, read_own}
 use Rattle.session.specs.Arrays.{array_at}
 use Rattle.region_cells.specs.Walks.{chunks_met}
 use Rattle.array_region.specs.Planning.{box_count}
@@ -43,7 +43,7 @@ held_gets : (r : Result (List ℕ) Refusal) → OnlyGets (held_of r)
 held_gets (Ok bytes) = tt
 held_gets (Err why) = tt
 
-found_gets : (r : Result (List ℕ) Refusal) → OnlyGets (found r)
+found_gets : (r : Result (List ℕ) Refusal) → OnlyGets (found_bytes r)
 found_gets (Ok bytes) = tt
 found_gets (Err why) = tt
 

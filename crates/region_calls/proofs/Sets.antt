@@ -65,7 +65,7 @@ use Rattle.array_region.specs.Cells.{cell_number, cells_of}
 use Rattle.array_region.specs.Planning.{box_count, IsBoxOf}
 use Rattle.array_region.specs.Reading.{Kept, Chunk, Reads, keeping, chunk_kept}
 use Rattle.array_region.specs.Writing.{is_covered, old_chunk, bytes_put, with_numbers, bytes_read, write_chunks, outside_from, cells_refused, unless_why, write_box, write_array, region_set_program}
-use Rattle.array_region.proofs.Planned.{IsAt, at_array, no_array, IsRegion, no_box, box_passes, box_of}
+use Rattle.array_region.proofs.Planned.{IsAt, at_array, no_array, IsRegion, refused_box, box_passes, box_of}
 use Rattle.array_region.proofs.Ranged.{some_size, AreNumbers, not_refused}
 use Rattle.region_calls.specs.Written.{bytes_held, IsTreeWith, IsWritten, RegionSetTells}
 use Rattle.region_calls.specs.Laws.{RegionSetLaw}
@@ -491,7 +491,7 @@ module _ (s : SessionState) (path from to : List ℕ) (numbers : List ℤ) (clie
   module _ (id : Id8) (array : ArrayView) (e : array_at s path ≡ Ok (id, array)) where
     no_box_told : (why : Refusal) (h : List Event) → box_count array from to ≡ Err why → RegionSetTells client s path from to numbers start (Err why) h
     no_box_told why h c =
-        let is = no_box array from to why c in
+        let is = refused_box array from to why c in
         subst (λ w. RegionSetTells client s path from to numbers start (Err w) h) (sym is.is) (record { node = id; array = array; found = e; cause = inl (c ∙ ap (λ (w : Refusal). Err w) is.is) })
 
     refused_is : (count : ℕ) (why : Refusal) → cells_refused array.kind count numbers ≡ Some why → IsRegion why

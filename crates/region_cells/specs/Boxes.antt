@@ -13,7 +13,8 @@ numbers_from n (suc count) = n ∷ numbers_from (suc n) count
 abbrev pub box_cells : (from to : List ℕ) → List (List ℕ)
 box_cells [] to = [] ∷ []
 box_cells (a ∷ from) [] = [] ∷ []
-box_cells (a ∷ from) (b ∷ to) = flat_map (λ n. map (λ cell. n ∷ cell) (box_cells from to)) (numbers_from a (b - a))
+box_cells (a ∷ from) (b ∷ to) =
+    flat_map (λ n. map (λ cell. n ∷ cell) (box_cells from to)) (numbers_from a (b - a))
 
 -- how long it is along each dimension, and how many cells it has
 abbrev pub lengths_of : (from to : List ℕ) → List ℕ
@@ -32,8 +33,10 @@ IsInBox from to cell = ⊥
 abbrev pub place_in_box : (from to cell : List ℕ) → ℕ
 place_in_box from to cell = c_order (lengths_of from to) (map (λ p. p.1 - p.0) (zip from cell))
 
--- a box and a chunk, with a number for each dimension; a chunk has no more elements along one than its length may say
+-- a box and a chunk, with a number for each dimension; a chunk has no more elements
+-- along one than its length may say
 abbrev pub IsBoxOver : (from to chunks index : List ℕ) → Type 0
 IsBoxOver [] [] [] [] = Unit {0}
-IsBoxOver (a ∷ from) (b ∷ to) (n ∷ chunks) (i ∷ index) = (1 ≤ n) × (n < 2 ^ 32) × IsBoxOver from to chunks index
+IsBoxOver (a ∷ from) (b ∷ to) (n ∷ chunks) (i ∷ index) =
+    (1 ≤ n) × (n < 2 ^ 32) × IsBoxOver from to chunks index
 IsBoxOver from to chunks index = ⊥

@@ -10,10 +10,12 @@ AreInRange kind row = (k : ℕ) → k < length row → is_in_range kind (get_or 
 
 -- they are those of the first elements
 abbrev pub ReadsRow : IntKind → (big : Bool) → (bytes : List ℕ) → List ℤ → Type 0
-ReadsRow kind big bytes new = (k : ℕ) → k < length new → get_or new k (pos 0) ≡ number_of kind big (element_at kind k bytes)
+ReadsRow kind big bytes new =
+    (k : ℕ) → k < length new → get_or new k (pos 0) ≡ number_of kind big (element_at kind k bytes)
 
 -- the first elements have them, and each other one stays
 pub record WritesRow (kind : IntKind) (big : Bool) (row : List ℤ) (old new : List ℕ) : Type 0 where
   pub same_length : length new ≡ length old
-  pub inside : (k : ℕ) → k < length row → element_at kind k new ≡ bytes_of kind big (get_or row k (pos 0))
+  pub inside : (k : ℕ) → k < length row
+      → element_at kind k new ≡ bytes_of kind big (get_or row k (pos 0))
   pub outside : (k : ℕ) → length row ≤ k → element_at kind k new ≡ element_at kind k old

@@ -16,12 +16,12 @@ use Rattle.store_api.specs.declared.machines.Refusal.{Refusal}
 use Rattle.intact.specs.declared.visits.FileVisit.{FileVisit}
 use Rattle.intact.specs.declared.visits.PartVisit.{PartVisit}
 use Rattle.intact.specs.Visits.{Visit, Refs, Ref, Snap, Log, File, Part, told}
-use Rattle.intact.specs.Intact.{Made, IsTold, IsMade, IsFineBy, IsFine, Named, HasParent, IsAbove, IsIntact}
+use Rattle.intact.specs.Intact.{Made, WasAnswered, WasVisited, IsFineBy, IsFine, Named, HasParent, IsAbove, IsIntact}
 use Rattle.intact.specs.Intact as intact
 use Rattle.repo_check.specs.Works.{Work, has_fault, and_fault, unless_told, with_fault, verdict_by, verdict}
 use Rattle.repo_check.specs.Plays.{ends_with}
 use Rattle.repo_check.specs.Findings.{Finding, Makes, Comes_back, made_of, Deed, key_for, fault_by, with_finding, faults_from, faults_of}
-use Rattle.repo_check.specs.Exact.{AreFindings, AreAll, IsRinged, Counts, IsSnapshotNamed, IsObjectNamed, IsSound, IsUnsound, EndsSo}
+use Rattle.repo_check.specs.Exact.{AreFindings, AreAll, IsRinged, Counts, IsSnapshotNamed, IsObjectNamed, AllIsIntact, IsUnsound, EndsSo}
 use Rattle.repo_check.proofs.Sets.{Has, as-elements, rises-distinct}
 use Rattle.ice_ids.proofs.Elements.{first-is, later-is, first-or-later, none-in}
 use Rattle.repo_check.proofs.Settling.{Settled, settled-ring}
@@ -128,11 +128,11 @@ module _ (f : List Finding) (d : List Deed) (w : Work) (k : Keeps f (made_of f) 
   abbrev m : List Made
   m = made_of f
 
-  or-none : (v : Visit) → IsMade m v ⊎ Contains [] v → IsMade m v
+  or-none : (v : Visit) → WasVisited m v ⊎ Contains [] v → WasVisited m v
   or-none v (inl a) = a
   or-none v (inr b) = absurd (none-in v b)
 
-  whole : (v : Visit) → Named m v → IsMade m v
+  whole : (v : Visit) → Named m v → WasVisited m v
   whole v intact.branches = or-none (Refs Branches) k.core.branches
   whole v intact.tags = or-none (Refs Tags) k.core.tags
   whole v (intact.behind h t c) = or-none v (k.core.owes _ v _ t c)
@@ -146,7 +146,7 @@ module _ (f : List Finding) (d : List Deed) (w : Work) (k : Keeps f (made_of f) 
   all = record { whole = whole; ringed = ringed }
 
   -- a reply with which nothing is wrong
-  fine-by : ((x : Finding) → Contains f x → IsClean x) → (v : Visit) (r : Reply) → IsTold m v r → IsFineBy v r
+  fine-by : ((x : Finding) → Contains f x → IsClean x) → (v : Visit) (r : Reply) → WasAnswered m v r → IsFineBy v r
   fine-by cleans v r t = go v refl (told v r) refl
     where
       cleaned : (key : Key) (kind : FaultKind) → key_for v ≡ Some key → told v r ≡ Err kind → ⊥
@@ -159,7 +159,7 @@ module _ (f : List Finding) (d : List Deed) (w : Work) (k : Keeps f (made_of f) 
       by key a (Err kind) e = absurd (cleaned key kind a e)
 
       go : (u : Visit) → v ≡ u → (x : Result (List Visit) FaultKind) → told v r ≡ x → IsFineBy v r
-      go (Refs part) e x is = subst (λ (y : Visit). IsFineBy y r) (sym e) (k.core.lists part r (subst (λ (y : Visit). IsTold m y r) e t))
+      go (Refs part) e x is = subst (λ (y : Visit). IsFineBy y r) (sym e) (k.core.lists part r (subst (λ (y : Visit). WasAnswered m y r) e t))
       go (Ref key) e x is = by key (ap key_for e) x is
       go (Snap id) e x is = by (Snapshot id) (ap key_for e) x is
       go (Log id) e x is = by (Txn id) (ap key_for e) x is
@@ -213,7 +213,7 @@ module _ (f : List Finding) (d : List Deed) (w : Work) (k : Keeps f (made_of f) 
 
       fine : (y : Finding) → Contains f y → IsFineFinding y
       fine (Makes one) h =
-          let t : IsTold m one.visit one.reply = record { one = one; among = as-made f one h; visit_is = refl; reply_is = refl } in
+          let t : WasAnswered m one.visit one.reply = record { one = one; among = as-made f one h; visit_is = refl; reply_is = refl } in
           (i.each one.visit (k.core.named one.visit (record { reply = one.reply; told = t }))).each one.reply t
       fine (Comes_back id) h =
           let above = k.rings id h in

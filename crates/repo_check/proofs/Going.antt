@@ -32,7 +32,7 @@ use Rattle.intact.specs.Rows.{files_of}
 use Rattle.intact.specs.Parts.{parts_of}
 use Rattle.intact.specs.Told.{found_ref, found_snapshot, found_log, found_manifest, found_part}
 use Rattle.intact.specs.Visits.{Visit, Refs, Ref, Snap, Log, File, Part, leading, nowhere, or_nowhere, behind_ref, behind_snapshot, behind_manifest, its_files, its_parent}
-use Rattle.intact.specs.Intact.{Made, IsTold, IsMade, IsFineBy, HasParent, IsAbove}
+use Rattle.intact.specs.Intact.{Made, WasAnswered, WasVisited, IsFineBy, HasParent, IsAbove}
 use Rattle.intact.specs.Intact as intact
 use Rattle.repo_check.specs.Works.{Work, has_file, has_part, new_walk, meet_snapshot, meet_file, meet_part, tell}
 use Rattle.repo_check.specs.Plays.{Answer, ends_with, starved, asks, on_got, on_listed, told_part, told_log, told_ref, roots_with, get_parts, get_files, get_log, get_refs, after_file, after_snapshot, meets, onward, read_on, walk}
@@ -136,7 +136,7 @@ module _ (f : List Finding) (m : List Made) (d : List Deed) (w : Work) (pending 
 abbrev pub part_visits : List PartVisit → List Visit
 part_visits ps = map (λ p. Part p) ps
 
-part-may : (m : List Made) (p : PartVisit) (r : Reply) → (IsMade m (Part p) → ⊥) → MayMake m (Part p) r
+part-may : (m : List Made) (p : PartVisit) (r : Reply) → (WasVisited m (Part p) → ⊥) → MayMake m (Part p) r
 part-may m p r unmade = record { new = λ o h. unmade h; log = λ id e. absurd (other id e); list = λ part e. absurd (another part e) }
   where
     other : (id : Id12) → Part p ≡ Log id → ⊥
@@ -149,7 +149,7 @@ module _ (pending : List Visit) (next : Work → Answer) where
   abbrev PartsGo : List PartVisit → Type 0
   PartsGo ps = (f : List Finding) (m : List Made) (d : List Deed) (w : Work) → Keeps f m d w (part_visits ps ++ pending) → Follows f m w pending next → Goes d (get_parts ps w next)
 
-  part-seen : (p : PartVisit) (ps : List PartVisit) → PartsGo ps → (f : List Finding) (m : List Made) (d : List Deed) (w : Work) → Keeps f m d w (Part p ∷ (part_visits ps ++ pending)) → Follows f m w pending next → (IsMade m (Part p) → ⊥)
+  part-seen : (p : PartVisit) (ps : List PartVisit) → PartsGo ps → (f : List Finding) (m : List Made) (d : List Deed) (w : Work) → Keeps f m d w (Part p ∷ (part_visits ps ++ pending)) → Follows f m w pending next → (WasVisited m (Part p) → ⊥)
       → (got : Got) (r : Result (Unit {0}) FaultKind) → found_part p got ≡ r → Goes (d ++ record { op = Get (Chunk p.object); reply = Is_got got } ∷ []) (get_parts ps (told_part p r w) next)
   part-seen p ps again f m d w k follows unmade got r e = go r e
     where
@@ -190,7 +190,7 @@ module _ (pending : List Visit) (next : Work → Answer) where
 abbrev pub file_visits : List FileVisit → List Visit
 file_visits fs = map (λ f. File f) fs
 
-file-may : (m : List Made) (x : FileVisit) (r : Reply) → (IsMade m (File x) → ⊥) → MayMake m (File x) r
+file-may : (m : List Made) (x : FileVisit) (r : Reply) → (WasVisited m (File x) → ⊥) → MayMake m (File x) r
 file-may m x r unmade = record { new = λ o h. unmade h; log = λ id e. absurd (other id e); list = λ part e. absurd (another part e) }
   where
     other : (id : Id12) → File x ≡ Log id → ⊥
@@ -203,7 +203,7 @@ module _ (pending : List Visit) (next : Work → Answer) where
   abbrev FilesGo : List FileVisit → Type 0
   FilesGo fs = (f : List Finding) (m : List Made) (d : List Deed) (w : Work) → Keeps f m d w (file_visits fs ++ pending) → Follows f m w pending next → Goes d (get_files fs w next)
 
-  file-seen : (x : FileVisit) (xs : List FileVisit) → FilesGo xs → (f : List Finding) (m : List Made) (d : List Deed) (w : Work) → Keeps f m d w (File x ∷ (file_visits xs ++ pending)) → Follows f m w pending next → (IsMade m (File x) → ⊥)
+  file-seen : (x : FileVisit) (xs : List FileVisit) → FilesGo xs → (f : List Finding) (m : List Made) (d : List Deed) (w : Work) → Keeps f m d w (File x ∷ (file_visits xs ++ pending)) → Follows f m w pending next → (WasVisited m (File x) → ⊥)
       → (got : Got) (r : Result ManifestFile FaultKind) → found_manifest x got ≡ r → Goes (d ++ record { op = Get (Manifest x.manifest); reply = Is_got got } ∷ []) (after_file x w (λ v. get_files xs v next) r)
   file-seen x xs again f m d w k follows unmade got r e = go r e
     where
@@ -244,9 +244,9 @@ module _ (pending : List Visit) (next : Work → Answer) where
           (λ got. file-seen x xs again f m d w k follows (λ h. differ (has_file w.files x) e (k.sets.files_all x h)) got (found_manifest x got) refl)
 
 -- ---- logs
-module _ (pending : List Visit) (next : Work → Answer) (id : Id12) (f : List Finding) (m : List Made) (d : List Deed) (w : Work) (follows : Follows f m w pending next) (snap : IsMade m (Snap id)) (unmade : IsMade m (Log id) → ⊥) where
+module _ (pending : List Visit) (next : Work → Answer) (id : Id12) (f : List Finding) (m : List Made) (d : List Deed) (w : Work) (follows : Follows f m w pending next) (snap : WasVisited m (Snap id)) (unmade : WasVisited m (Log id) → ⊥) where
   log-may : (r : Reply) → MayMake m (Log id) r
-  log-may r = record { new = λ o h. unmade h; log = λ x e. subst (λ (y : Id12). IsMade m (Snap y)) (same x e) snap; list = λ part e. absurd (another part e) }
+  log-may r = record { new = λ o h. unmade h; log = λ x e. subst (λ (y : Id12). WasVisited m (Snap y)) (same x e) snap; list = λ part e. absurd (another part e) }
     where
       same : (x : Id12) → Log id ≡ Log x → id ≡ x
       same x e = cc

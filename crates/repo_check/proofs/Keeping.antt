@@ -14,7 +14,7 @@ use Rattle.intact.specs.declared.visits.FileVisit.{FileVisit}
 use Rattle.intact.specs.declared.visits.PartVisit.{PartVisit}
 use Rattle.intact.specs.Places.{file_cmp, part_cmp}
 use Rattle.intact.specs.Visits.{Visit, Refs, Ref, Snap, Log, File, Part, leads}
-use Rattle.intact.specs.Intact.{Made, IsTold, IsMade, IsFineBy, Named, IsAbove}
+use Rattle.intact.specs.Intact.{Made, WasAnswered, WasVisited, IsFineBy, Named, IsAbove}
 use Rattle.intact.specs.Intact as intact
 use Rattle.repo_check.specs.declared.standing.CheckReport.{CheckReport}
 use Rattle.repo_check.specs.Works.{Work, with_file, with_part}
@@ -27,22 +27,22 @@ use Rattle.ice_ids.proofs.Elements.{first-is, later-is, first-or-later, none-in}
 -- ---- what is named, and what is still to be made of it
 pub record Core (m : List Made) (pending : List Visit) : Type 0 where
   pub once : AreOnce m
-  pub named : (v : Visit) → IsMade m v → Named m v
+  pub named : (v : Visit) → WasVisited m v → Named m v
   pub waits : (v : Visit) → Contains pending v → Named m v
-  pub owes : (v u : Visit) (r : Reply) → IsTold m v r → Contains (leads v r) u → IsMade m u ⊎ Contains pending u
-  pub branches : IsMade m (Refs Branches) ⊎ Contains pending (Refs Branches)
-  pub tags : IsMade m (Refs Tags) ⊎ Contains pending (Refs Tags)
-  pub logs : (id : Id12) → IsMade m (Log id) → IsMade m (Snap id)
-  pub lists : (part : Part_of_store) (r : Reply) → IsTold m (Refs part) r → IsFineBy (Refs part) r
+  pub owes : (v u : Visit) (r : Reply) → WasAnswered m v r → Contains (leads v r) u → WasVisited m u ⊎ Contains pending u
+  pub branches : WasVisited m (Refs Branches) ⊎ Contains pending (Refs Branches)
+  pub tags : WasVisited m (Refs Tags) ⊎ Contains pending (Refs Tags)
+  pub logs : (id : Id12) → WasVisited m (Log id) → WasVisited m (Snap id)
+  pub lists : (part : Part_of_store) (r : Reply) → WasAnswered m (Refs part) r → IsFineBy (Refs part) r
 
 -- what a visit needs for its being made now
 pub record MayMake (m : List Made) (v : Visit) (r : Reply) : Type 0 where
-  pub new : IsOfObject v → IsMade m v → ⊥
-  pub log : (id : Id12) → v ≡ Log id → IsMade m (Snap id)
+  pub new : IsOfObject v → WasVisited m v → ⊥
+  pub log : (id : Id12) → v ≡ Log id → WasVisited m (Snap id)
   pub list : (part : Part_of_store) → v ≡ Refs part → IsFineBy (Refs part) r
 
 -- what is pending first was made already
-pub core-skip : (m : List Made) (v : Visit) (pending : List Visit) → IsMade m v → Core m (v ∷ pending) → Core m pending
+pub core-skip : (m : List Made) (v : Visit) (pending : List Visit) → WasVisited m v → Core m (v ∷ pending) → Core m pending
 core-skip m v pending made c = record {
   once = c.once;
   named = c.named;
@@ -54,9 +54,9 @@ core-skip m v pending made c = record {
   lists = c.lists;
 }
   where
-    settle : (u : Visit) → IsMade m u ⊎ Contains (v ∷ pending) u → IsMade m u ⊎ Contains pending u
+    settle : (u : Visit) → WasVisited m u ⊎ Contains (v ∷ pending) u → WasVisited m u ⊎ Contains pending u
     settle u (inl a) = inl a
-    settle u (inr b) = elim (first-or-later v u pending b) [ inl e ↦ inl (subst (IsMade m) e made) | inr l ↦ inr l ]
+    settle u (inr b) = elim (first-or-later v u pending b) [ inl e ↦ inl (subst (WasVisited m) e made) | inr l ↦ inr l ]
 
 -- what is pending may stand in another order
 pub core-moves : (m : List Made) (p q : List Visit) → ((v : Visit) → Contains p v → Contains q v) → ((v : Visit) → Contains q v → Contains p v) → Core m p → Core m q
@@ -71,7 +71,7 @@ core-moves m p q to from c = record {
   lists = c.lists;
 }
   where
-    moved : (u : Visit) → IsMade m u ⊎ Contains p u → IsMade m u ⊎ Contains q u
+    moved : (u : Visit) → WasVisited m u ⊎ Contains p u → WasVisited m u ⊎ Contains q u
     moved u (inl a) = inl a
     moved u (inr b) = inr (to u b)
 
@@ -106,7 +106,7 @@ core-made m v pending r may c = record {
     own : Named n v
     own = named-grows m n v g (c.waits v (first-is v pending))
 
-    settle : (u : Visit) → IsMade m u ⊎ Contains (v ∷ pending) u → IsMade n u ⊎ Contains (leads v r ++ pending) u
+    settle : (u : Visit) → WasVisited m u ⊎ Contains (v ∷ pending) u → WasVisited n u ⊎ Contains (leads v r ++ pending) u
     settle u (inl a) = inl (made-grows m n u g a)
     settle u (inr b) = elim (first-or-later v u pending b) [ inl e ↦ inl (made-here m (record { visit = v; reply = r }) u e) | inr l ↦ inr (Contains-append_right (leads v r) pending u l) ]
 
@@ -119,18 +119,18 @@ HasPart = HasKey part_cmp part-exact part-self
 
 pub record IsObjectMade (m : List Made) (id : Id12) : Type 0 where
   pub part : PartVisit
-  pub made : IsMade m (Part part)
+  pub made : WasVisited m (Part part)
   pub object_is : part.object ≡ id
 
 pub record Sets (m : List Made) (met : List Id12) (files : List FileVisit) (parts : List PartVisit) (objects : List Id12) : Type 0 where
-  pub snaps_in : (id : Id12) → Has met id → IsMade m (Snap id)
-  pub snaps_all : (id : Id12) → IsMade m (Snap id) → Has met id
-  pub files_in : (f : FileVisit) → HasFile files f → IsMade m (File f)
-  pub files_all : (f : FileVisit) → IsMade m (File f) → HasFile files f
-  pub parts_in : (p : PartVisit) → HasPart parts p → IsMade m (Part p)
-  pub parts_all : (p : PartVisit) → IsMade m (Part p) → HasPart parts p
+  pub snaps_in : (id : Id12) → Has met id → WasVisited m (Snap id)
+  pub snaps_all : (id : Id12) → WasVisited m (Snap id) → Has met id
+  pub files_in : (f : FileVisit) → HasFile files f → WasVisited m (File f)
+  pub files_all : (f : FileVisit) → WasVisited m (File f) → HasFile files f
+  pub parts_in : (p : PartVisit) → HasPart parts p → WasVisited m (Part p)
+  pub parts_all : (p : PartVisit) → WasVisited m (Part p) → HasPart parts p
   pub objects_in : (id : Id12) → Has objects id → IsObjectMade m id
-  pub objects_all : (p : PartVisit) → IsMade m (Part p) → Has objects p.object
+  pub objects_all : (p : PartVisit) → WasVisited m (Part p) → Has objects p.object
   pub met_order : Rises met
   pub objects_order : Rises objects
 
@@ -138,7 +138,7 @@ module _ (m : List Made) (met : List Id12) (files : List FileVisit) (parts : Lis
   abbrev more : List Made
   more = m ++ one ∷ []
 
-  grown : (v : Visit) → IsMade m v → IsMade more v
+  grown : (v : Visit) → WasVisited m v → WasVisited more v
   grown v h = made-grows m more v (grows-more m one) h
 
   grown-object : (id : Id12) → IsObjectMade m id → IsObjectMade more id
@@ -240,7 +240,7 @@ pub record Keeps (f : List Finding) (m : List Made) (d : List Deed) (w : Work) (
   pub faults : w.faults ≡ faults_of f
   pub rings : (id : Id12) → Contains f (Comes_back id) → IsAbove m id id
 
-pub keeps-skip : (f : List Finding) (m : List Made) (d : List Deed) (w : Work) (v : Visit) (pending : List Visit) → IsMade m v → Keeps f m d w (v ∷ pending) → Keeps f m d w pending
+pub keeps-skip : (f : List Finding) (m : List Made) (d : List Deed) (w : Work) (v : Visit) (pending : List Visit) → WasVisited m v → Keeps f m d w (v ∷ pending) → Keeps f m d w pending
 keeps-skip f m d w v pending made k = record { made_is = k.made_is; deeds_are = k.deeds_are; core = core-skip m v pending made k.core; sets = k.sets; faults = k.faults; rings = k.rings }
 
 pub keeps-moves : (f : List Finding) (m : List Made) (d : List Deed) (w : Work) (p q : List Visit) → ((v : Visit) → Contains p v → Contains q v) → ((v : Visit) → Contains q v → Contains p v) → Keeps f m d w p → Keeps f m d w q
@@ -284,7 +284,7 @@ keeps-back f m d w w' pending id k above sets faults = record {
 pub sound-so-far : (f : List Finding) (m : List Made) (d : List Deed) (w : Work) (pending : List Visit) → Keeps f m d w pending → AreFindings f
 sound-so-far f m d w pending k = record {
   once = subst AreOnce (sym k.made_is) k.core.once;
-  named = subst (λ (l : List Made). (v : Visit) → IsMade l v → Named l v) (sym k.made_is) k.core.named;
+  named = subst (λ (l : List Made). (v : Visit) → WasVisited l v → Named l v) (sym k.made_is) k.core.named;
   rings = subst (λ (l : List Made). (id : Id12) → Contains f (Comes_back id) → IsAbove l id id) (sym k.made_is) k.rings;
 }
 

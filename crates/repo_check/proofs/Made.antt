@@ -12,7 +12,7 @@ use Rattle.check_reports.specs.declared.faults.FaultKind.{FaultKind}
 use Rattle.check_reports.specs.declared.faults.CheckFault.{CheckFault}
 use Rattle.intact.specs.Told.{found_snapshot}
 use Rattle.intact.specs.Visits.{Visit, Snap, leads}
-use Rattle.intact.specs.Intact.{Made, IsTold, IsMade, Named, HasParent, IsAbove}
+use Rattle.intact.specs.Intact.{Made, WasAnswered, WasVisited, Named, HasParent, IsAbove}
 use Rattle.intact.specs.Intact as intact
 use Rattle.repo_check.specs.Findings.{Finding, Makes, Comes_back, made_of, Deed, deed_of, deeds_of, with_finding, faults_from}
 use Rattle.repo_check.specs.Exact.{IsOfObject, AreOnce, one_for_snapshot, snapshot_gets}
@@ -41,38 +41,38 @@ gets-more [] one = omega arith
 gets-more (x ∷ m) one = let rest = gets-more m one in omega (arith, rest)
 
 -- ---- what was told
-told-first : (one : Made) (m : List Made) → IsTold (one ∷ m) one.visit one.reply
+told-first : (one : Made) (m : List Made) → WasAnswered (one ∷ m) one.visit one.reply
 told-first one m = record { one = one; among = first-is one m; visit_is = refl; reply_is = refl }
 
-told-later : (one : Made) (m : List Made) (v : Visit) (r : Reply) → IsTold m v r → IsTold (one ∷ m) v r
+told-later : (one : Made) (m : List Made) (v : Visit) (r : Reply) → WasAnswered m v r → WasAnswered (one ∷ m) v r
 told-later one m v r t = record { one = t.one; among = later-is one t.one m t.among; visit_is = t.visit_is; reply_is = t.reply_is }
 
-pub told-here : (m : List Made) (one : Made) → IsTold (m ++ one ∷ []) one.visit one.reply
+pub told-here : (m : List Made) (one : Made) → WasAnswered (m ++ one ∷ []) one.visit one.reply
 told-here m one = record { one = one; among = Contains-push m one; visit_is = refl; reply_is = refl }
 
 -- what was told stays told
 abbrev pub Grows : List Made → List Made → Type 0
-Grows m n = (v : Visit) (r : Reply) → IsTold m v r → IsTold n v r
+Grows m n = (v : Visit) (r : Reply) → WasAnswered m v r → WasAnswered n v r
 
 pub grows-more : (m : List Made) (one : Made) → Grows m (m ++ one ∷ [])
 grows-more m one v r t = record { one = t.one; among = Contains-append_left m (one ∷ []) t.one t.among; visit_is = t.visit_is; reply_is = t.reply_is }
 
-pub told-cases : (m : List Made) (one : Made) (v : Visit) (r : Reply) → IsTold (m ++ one ∷ []) v r → IsTold m v r ⊎ ((one.visit ≡ v) × (one.reply ≡ r))
+pub told-cases : (m : List Made) (one : Made) (v : Visit) (r : Reply) → WasAnswered (m ++ one ∷ []) v r → WasAnswered m v r ⊎ ((one.visit ≡ v) × (one.reply ≡ r))
 told-cases m one v r t = elim (Contains-push_cases m one t.one t.among) [
   | inl a ↦ inl (record { one = t.one; among = a; visit_is = t.visit_is; reply_is = t.reply_is })
   | inr e ↦ inr (ap (λ (x : Made). x.visit) e ∙ t.visit_is, ap (λ (x : Made). x.reply) e ∙ t.reply_is)
 ]
 
-pub made-grows : (m n : List Made) (v : Visit) → Grows m n → IsMade m v → IsMade n v
+pub made-grows : (m n : List Made) (v : Visit) → Grows m n → WasVisited m v → WasVisited n v
 made-grows m n v g h = record { reply = h.reply; told = g v h.reply h.told }
 
-pub made-here : (m : List Made) (one : Made) (v : Visit) → one.visit ≡ v → IsMade (m ++ one ∷ []) v
-made-here m one v e = record { reply = one.reply; told = subst (λ (x : Visit). IsTold (m ++ one ∷ []) x one.reply) e (told-here m one) }
+pub made-here : (m : List Made) (one : Made) (v : Visit) → one.visit ≡ v → WasVisited (m ++ one ∷ []) v
+made-here m one v e = record { reply = one.reply; told = subst (λ (x : Visit). WasAnswered (m ++ one ∷ []) x one.reply) e (told-here m one) }
 
-pub made-cases : (m : List Made) (one : Made) (v : Visit) → IsMade (m ++ one ∷ []) v → IsMade m v ⊎ (one.visit ≡ v)
+pub made-cases : (m : List Made) (one : Made) (v : Visit) → WasVisited (m ++ one ∷ []) v → WasVisited m v ⊎ (one.visit ≡ v)
 made-cases m one v h = elim (told-cases m one v h.reply h.told) [ inl t ↦ inl (record { reply = h.reply; told = t }) | inr e ↦ inr e.0 ]
 
-pub made-old : (m : List Made) (one : Made) (v : Visit) → (one.visit ≡ v → ⊥) → IsMade (m ++ one ∷ []) v → IsMade m v
+pub made-old : (m : List Made) (one : Made) (v : Visit) → (one.visit ≡ v → ⊥) → WasVisited (m ++ one ∷ []) v → WasVisited m v
 made-old m one v n h = elim (made-cases m one v h) [ inl a ↦ a | inr e ↦ absurd (n e) ]
 
 pub named-grows : (m n : List Made) (v : Visit) → Grows m n → Named m v → Named n v
@@ -93,30 +93,30 @@ above-then m a b c (intact.next h) i = intact.further h (intact.next i)
 above-then m a b c (intact.further h g) i = intact.further h (above-then m _ b c g i)
 
 -- ---- made once
-pub once-more : (m : List Made) (one : Made) → AreOnce m → (IsOfObject one.visit → IsMade m one.visit → ⊥) → AreOnce (m ++ one ∷ [])
+pub once-more : (m : List Made) (one : Made) → AreOnce m → (IsOfObject one.visit → WasVisited m one.visit → ⊥) → AreOnce (m ++ one ∷ [])
 once-more [] one a n = (λ o h. none-in h.told.one h.told.among, tt)
 once-more (x ∷ m) one a n = (here, once-more m one a.1 (λ o h. n o (record { reply = h.reply; told = told-later x m one.visit h.reply h.told })))
   where
-    here : IsOfObject x.visit → IsMade (m ++ one ∷ []) x.visit → ⊥
+    here : IsOfObject x.visit → WasVisited (m ++ one ∷ []) x.visit → ⊥
     here o h = elim (made-cases m one x.visit h) [
       | inl b ↦ a.0 o b
-      | inr e ↦ n (subst IsOfObject (sym e) o) (record { reply = x.reply; told = subst (λ (v : Visit). IsTold (x ∷ m) v x.reply) (sym e) (told-first x m) })
+      | inr e ↦ n (subst IsOfObject (sym e) o) (record { reply = x.reply; told = subst (λ (v : Visit). WasAnswered (x ∷ m) v x.reply) (sym e) (told-first x m) })
     ]
 
-tail-told : (one : Made) (m : List Made) (v : Visit) (r : Reply) → IsTold (one ∷ m) v r → ((one.visit ≡ v) × (one.reply ≡ r)) ⊎ IsTold m v r
+tail-told : (one : Made) (m : List Made) (v : Visit) (r : Reply) → WasAnswered (one ∷ m) v r → ((one.visit ≡ v) × (one.reply ≡ r)) ⊎ WasAnswered m v r
 tail-told one m v r t = elim (first-or-later one t.one m t.among) [
   | inl e ↦ inl (ap (λ (x : Made). x.visit) e ∙ t.visit_is, ap (λ (x : Made). x.reply) e ∙ t.reply_is)
   | inr a ↦ inr (record { one = t.one; among = a; visit_is = t.visit_is; reply_is = t.reply_is })
 ]
 
-pub told-once : (m : List Made) (v : Visit) (r s : Reply) → AreOnce m → IsOfObject v → IsTold m v r → IsTold m v s → r ≡ s
+pub told-once : (m : List Made) (v : Visit) (r s : Reply) → AreOnce m → IsOfObject v → WasAnswered m v r → WasAnswered m v s → r ≡ s
 told-once [] v r s a o t u = absurd (none-in t.one t.among)
 told-once (x ∷ m) v r s a o t u = both (λ b c. told-once m v r s a.1 o b c) (tail-told x m v r t) (tail-told x m v s u)
   where
-    both : (IsTold m v r → IsTold m v s → r ≡ s) → ((x.visit ≡ v) × (x.reply ≡ r)) ⊎ IsTold m v r → ((x.visit ≡ v) × (x.reply ≡ s)) ⊎ IsTold m v s → r ≡ s
+    both : (WasAnswered m v r → WasAnswered m v s → r ≡ s) → ((x.visit ≡ v) × (x.reply ≡ r)) ⊎ WasAnswered m v r → ((x.visit ≡ v) × (x.reply ≡ s)) ⊎ WasAnswered m v s → r ≡ s
     both again (inl b) (inl c) = sym b.1 ∙ c.1
-    both again (inl b) (inr c) = absurd (a.0 (subst IsOfObject (sym b.0) o) (record { reply = s; told = subst (λ (y : Visit). IsTold m y s) (sym b.0) c }))
-    both again (inr b) (inl c) = absurd (a.0 (subst IsOfObject (sym c.0) o) (record { reply = r; told = subst (λ (y : Visit). IsTold m y r) (sym c.0) b }))
+    both again (inl b) (inr c) = absurd (a.0 (subst IsOfObject (sym b.0) o) (record { reply = s; told = subst (λ (y : Visit). WasAnswered m y s) (sym b.0) c }))
+    both again (inr b) (inl c) = absurd (a.0 (subst IsOfObject (sym c.0) o) (record { reply = r; told = subst (λ (y : Visit). WasAnswered m y r) (sym c.0) b }))
     both again (inr b) (inr c) = again b c
 
 -- a snapshot has one parent at most

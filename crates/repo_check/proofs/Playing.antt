@@ -18,7 +18,7 @@ use Rattle.intact.specs.declared.visits.FileVisit.{FileVisit}
 use Rattle.intact.specs.declared.visits.PartVisit.{PartVisit}
 use Rattle.intact.specs.Told.{found_ref}
 use Rattle.intact.specs.Visits.{Visit, Refs, Ref, Snap, Log, File, Part, leading, or_nowhere, behind_ref}
-use Rattle.intact.specs.Intact.{Made, IsTold, IsMade, IsFineBy, Named}
+use Rattle.intact.specs.Intact.{Made, WasAnswered, WasVisited, IsFineBy, Named}
 use Rattle.intact.specs.Intact as intact
 use Rattle.repo_check.specs.Works.{Work, no_work, new_walk, tell}
 use Rattle.repo_check.specs.Plays.{Answer, asks, on_got, on_listed, told_ref, roots_with, get_refs, walks, list_refs, then_tags, check_play}
@@ -208,7 +208,7 @@ tags-last roots v h = elim (first-or-later (Refs Tags) v (root_visits roots ++ [
 tags-follow : (roots : List Id12) (f : List Finding) (m : List Made) (d : List Deed) (w : Work) → Keeps f m d w (root_visits roots ++ Refs Tags ∷ []) → w.met ≡ [] → Goes d (then_tags roots w)
 tags-follow roots f m d w k bare = goes-part [] walks walks-follow Tags roots f m d w (keeps-moves f m d w (root_visits roots ++ Refs Tags ∷ []) (Refs Tags ∷ (root_visits roots ++ [])) (tags-first roots) (tags-last roots) k) bare
 
-nothing-told : {A : Type 0} (v : Visit) → IsMade [] v → A
+nothing-told : {A : Type 0} (v : Visit) → WasVisited [] v → A
 nothing-told v h = absurd (none-in h.told.one h.told.among)
 
 at-first : Keeps [] [] [] no_work (Refs Branches ∷ (root_visits [] ++ Refs Tags ∷ []))

@@ -8,7 +8,7 @@ use Rattle.object_store.specs.declared.events.Reply.{Reply}
 use Rattle.object_store.specs.declared.events.Reply.TheVariants.{Got as Is_got}
 use Rattle.intact.specs.Told.{found_snapshot}
 use Rattle.intact.specs.Visits.{Visit, Snap}
-use Rattle.intact.specs.Intact.{Made, IsTold, HasParent, IsAbove}
+use Rattle.intact.specs.Intact.{Made, WasAnswered, HasParent, IsAbove}
 use Rattle.intact.specs.Intact as intact
 use Rattle.repo_check.specs.Findings.{Finding, Comes_back}
 use Rattle.repo_check.specs.Exact.{AreOnce}
@@ -20,7 +20,7 @@ NoParent id got = (s : SnapshotFile) (p : Id12) → found_snapshot id got ≡ Ok
 
 -- the chain from a snapshot ends, or comes to one to which a walk came back
 pub data Settled (f : List Finding) (m : List Made) : Id12 → Type 0 where
-  stop : {id : Id12} (got : Got) → IsTold m (Snap id) (Is_got got) → NoParent id got → Settled f m id
+  stop : {id : Id12} (got : Got) → WasAnswered m (Snap id) (Is_got got) → NoParent id got → Settled f m id
   back : {id : Id12} → Contains f (Comes_back id) → Settled f m id
   down : {id parent : Id12} → HasParent m id parent → Settled f m parent → Settled f m id
 
@@ -34,7 +34,7 @@ settled-grows f g m n id x (back c) = back (x.backs id c)
 settled-grows f g m n id x (down h s) = down (parent-grows m n _ _ x.grows h) (settled-grows f g m n _ x s)
 
 -- where one's own parent is known
-no-parent : (m : List Made) (id p : Id12) (got : Got) → AreOnce m → IsTold m (Snap id) (Is_got got) → NoParent id got → HasParent m id p → ⊥
+no-parent : (m : List Made) (id p : Id12) (got : Got) → AreOnce m → WasAnswered m (Snap id) (Is_got got) → NoParent id got → HasParent m id p → ⊥
 no-parent m id p got o t bare h =
     let same_reply : Is_got got ≡ Is_got h.got = told-once m (Snap id) (Is_got got) (Is_got h.got) o tt t h.answered in
     let same_got : got ≡ h.got = cc in

@@ -21,7 +21,7 @@ use Rattle.intact.specs.declared.visits.PartVisit.{PartVisit}
 use Rattle.intact.specs.Rows.{files_of}
 use Rattle.intact.specs.Told.{found_snapshot, found_log}
 use Rattle.intact.specs.Visits.{Visit, Refs, Snap, Log, File, Part, leading, or_nowhere, behind_snapshot, its_log, its_files, its_parent}
-use Rattle.intact.specs.Intact.{Made, IsTold, IsMade, HasParent, IsAbove}
+use Rattle.intact.specs.Intact.{Made, WasAnswered, WasVisited, HasParent, IsAbove}
 use Rattle.intact.specs.Intact as intact
 use Rattle.repo_check.specs.Works.{Work, meet_snapshot, tell}
 use Rattle.repo_check.specs.Plays.{Answer, ends_with, starved, asks, on_got, told_log, get_files, after_snapshot, meets, onward, read_on, walk}
@@ -121,7 +121,7 @@ module _ (f : List Finding) (m : List Made) (met walked : List Id12) (id : Id12)
       settle None is h o y end = settling.stop got (y.grows (Snap id) (Is_got got) (told-here m (record { visit = Snap id; reply = Is_got got }))) (λ t p a b. no-some p (sym is ∙ (ap (λ (u : SnapshotFile). u.parent) (same_file t a) ∙ b)))
       settle (Some p) is h o y end = settling.down (record { got = got; answered = y.grows (Snap id) (Is_got got) (told-here m (record { visit = Snap id; reply = Is_got got })); file = s; read = e; is = is }) end
 
-snap-may : (m : List Made) (id : Id12) (got : Got) → (IsMade m (Snap id) → ⊥) → MayMake m (Snap id) (Is_got got)
+snap-may : (m : List Made) (id : Id12) (got : Got) → (WasVisited m (Snap id) → ⊥) → MayMake m (Snap id) (Is_got got)
 snap-may m id got unmade = record { new = λ o h. unmade h; log = λ x e. absurd (other x e); list = λ part e. absurd (another part e) }
   where
     other : (x : Id12) → Snap id ≡ Log x → ⊥
@@ -177,7 +177,7 @@ module _ (pending : List Visit) (next : Work → Answer) (ends : WalkFollows pen
       ring false e = met e (has_object w.met id) refl
 
   -- behind the get of one that wasn't met
-  module _ (left : ℕ) (again : WalkGoes left) (id : Id12) (f : List Finding) (m : List Made) (d : List Deed) (w : Work) (s : Stands (suc left) id f m d w) (unmade : IsMade m (Snap id) → ⊥) (got : Got) where
+  module _ (left : ℕ) (again : WalkGoes left) (id : Id12) (f : List Finding) (m : List Made) (d : List Deed) (w : Work) (s : Stands (suc left) id f m d w) (unmade : WasVisited m (Snap id) → ⊥) (got : Got) where
     abbrev one : Made
     one = record { visit = Snap id; reply = Is_got got }
 
@@ -217,7 +217,7 @@ module _ (pending : List Visit) (next : Work → Answer) (ends : WalkFollows pen
         let v = meet_snapshot id w in
         let k = kept v same_sets (Ok file) e refl in
         let i = next-walk f m w.met w.walk id s.inwalk got file e in
-        let here : IsMade n (Snap id) = made-here m one (Snap id) refl in
+        let here : WasVisited n (Snap id) = made-here m one (Snap id) refl in
         let named : (p : Id12) → file.parent ≡ Some p → HasParent n id p = λ p is. record { got = got; answered = told-here m one; file = file; read = e; is = is } in
         let regroup : behind_snapshot id file ++ pending ≡ its_log id ++ (its_files file ++ (its_parent file.parent ++ pending)) =
         append_assoc (its_log id) (its_files file ++ its_parent file.parent) pending ∙ ap (λ (l : List Visit). its_log id ++ l) (append_assoc (its_files file) (its_parent file.parent) pending) in
@@ -234,7 +234,7 @@ module _ (pending : List Visit) (next : Work → Answer) (ends : WalkFollows pen
         not-same : Snap id ≡ Log id → ⊥
         not-same e = cc
 
-        no-log : IsMade n (Snap id) → IsMade n (Log id) → ⊥
+        no-log : WasVisited n (Snap id) → WasVisited n (Log id) → ⊥
         no-log here h = elim (made-cases m one (Log id) h) [ inl a ↦ unmade (s.keeps.core.logs id a) | inr e ↦ not-same e ]
 
     pub snapshot-goes : (r : Result SnapshotFile FaultKind) → found_snapshot id got ≡ r → Goes e1 (after_snapshot (walk left next) id w next r)

@@ -1,8 +1,10 @@
 -- What a check's answer says, by what its own operations were told.
-use Rattle.std.specs.Prelude.{◌≡◌, ◌⊎◌, ◌↔◌, ℕ, ◌+◌, ◌≤◌, true, List, [], ◌∷◌, ◌++◌, drop, length, Contains, Result, Ok, Err}
+use Rattle.std.specs.Prelude.{◌≡◌, ◌⊎◌, ◌↔◌, ℕ, ◌+◌, ◌≤◌, true, List, [], ◌∷◌, ◌++◌}
+use Rattle.std.specs.Prelude.{drop, length, Contains, Result, Ok, Err}
 use Rattle.ice_ids.specs.declared.Id12.{Id12}
 use Rattle.object_store.specs.declared.events.Op.{Op}
-use Rattle.object_store.specs.declared.events.Op.TheVariants.{Get, PutNew, PutOver, Remove, RemoveAt, List as ListPart}
+use Rattle.object_store.specs.declared.events.Op.TheVariants.{Get, PutNew, PutOver, Remove}
+use Rattle.object_store.specs.declared.events.Op.TheVariants.{RemoveAt, List as ListPart}
 use Rattle.object_store.specs.declared.events.Event.{Event}
 use Rattle.store_api.specs.declared.machines.Refusal.{Refusal}
 use Rattle.store_api.specs.declared.machines.Refusal.TheVariants as R
@@ -13,7 +15,7 @@ use Rattle.check_reports.specs.declared.faults.Checked.{Checked}
 use Rattle.repo_read.specs.Chains.{most_snapshots}
 use Rattle.intact.specs.declared.visits.PartVisit.{PartVisit}
 use Rattle.intact.specs.Visits.{Visit, Refs, Ref, Snap, Log, File, Part}
-use Rattle.intact.specs.Intact.{Made, IsMade, Named, HasParent, IsAbove, IsIntact}
+use Rattle.intact.specs.Intact.{Made, WasVisited, Named, HasParent, IsAbove, IsIntact}
 use Rattle.repo_check.specs.declared.standing.CheckReport.{CheckReport}
 use Rattle.repo_check.specs.Findings.{Finding, Comes_back, Deed, made_of, deeds_of, faults_of}
 
@@ -30,12 +32,13 @@ IsOfObject (Part p) = Unit {0}
 -- No get of an object is made twice for the same. (A ref is got as often as it is listed.)
 abbrev pub AreOnce : List Made → Type 0
 AreOnce [] = Unit {0}
-AreOnce (one ∷ made) = (IsOfObject one.visit → IsMade made one.visit → ⊥) × AreOnce made
+AreOnce (one ∷ made) = (IsOfObject one.visit → WasVisited made one.visit → ⊥) × AreOnce made
 
--- Findings so far: nothing was made twice, all that was made is named, and the snapshots to which walks came back are above themselves.
+-- Findings so far: nothing was made twice, all that was made is named, and the snapshots to which
+-- walks came back are above themselves.
 pub record AreFindings (findings : List Finding) : Type 0 where
   pub once : AreOnce (made_of findings)
-  pub named : (v : Visit) → IsMade (made_of findings) v → Named (made_of findings) v
+  pub named : (v : Visit) → WasVisited (made_of findings) v → Named (made_of findings) v
   pub rings : (id : Id12) → Contains findings (Comes_back id) → IsAbove (made_of findings) id id
 
 -- a walk came back to this snapshot, or to one below it
@@ -46,8 +49,9 @@ pub record IsRinged (findings : List Finding) (id : Id12) : Type 0 where
 
 -- All of them: what is named was made, and from each snapshot above itself a walk came back.
 pub record AreAll (findings : List Finding) : Type 0 where
-  pub whole : (v : Visit) → Named (made_of findings) v → IsMade (made_of findings) v
-  pub ringed : (id : Id12) → Named (made_of findings) (Snap id) → IsAbove (made_of findings) id id → IsRinged findings id
+  pub whole : (v : Visit) → Named (made_of findings) v → WasVisited (made_of findings) v
+  pub ringed : (id : Id12) → Named (made_of findings) (Snap id) → IsAbove (made_of findings) id id
+      → IsRinged findings id
 
 -- ---- counts
 -- none of these ids stands twice
@@ -91,7 +95,7 @@ pub record HasFailed (rest : List Deed) : Type 0 where
   pub failed : Fits deed.op deed.reply → has_failed deed.reply ≡ true
 
 -- all is intact, and counted
-pub record IsSound (findings : List Finding) (checked : Checked) : Type 0 where
+pub record AllIsIntact (findings : List Finding) (checked : Checked) : Type 0 where
   pub all : AreAll findings
   pub intact : IsIntact (made_of findings)
   pub snapshots : Counts (IsSnapshotNamed (made_of findings)) checked.snapshots
@@ -103,7 +107,8 @@ pub record IsUnsound (findings : List Finding) (n : ℕ) : Type 0 where
   pub broken : IsIntact (made_of findings) → ⊥
   pub count : length (faults_of findings) ≡ n
 
--- these snapshots were read, the lowest first: it names `below` as its parent, and each other one the one before it
+-- these snapshots were read, the lowest first: it names `below` as its parent, and
+-- each other one the one before it
 abbrev pub IsLine : List Made → (below : Id12) → List Id12 → Type 0
 IsLine made below [] = Unit {0}
 IsLine made below (id ∷ ids) = HasParent made id below × IsLine made id ids
@@ -118,15 +123,15 @@ pub record IsDeep (findings : List Finding) : Type 0 where
 
 -- how it ended, with these findings, and with a reply that was none of them
 abbrev pub EndsSo : List Finding → List Deed → Result Checked Refusal → Type 0
-EndsSo findings rest (Ok checked) = (rest ≡ []) × IsSound findings checked
+EndsSo findings rest (Ok checked) = (rest ≡ []) × AllIsIntact findings checked
 EndsSo findings rest (Err (R.Unsound n)) = (rest ≡ []) × IsUnsound findings n
 EndsSo findings rest (Err R.TooDeep) = (rest ≡ []) × IsDeep findings
 EndsSo findings rest (Err R.StoreFault) = HasFailed rest
 EndsSo findings rest (Err R.NoMemory) = length rest ≤ 1
 EndsSo findings rest (Err _) = ⊥
 
--- What a report says of a client's own operations with their replies: these are findings and at most one reply more; the faults are those of
--- the findings, in their order; and it ended so.
+-- What a report says of a client's own operations with their replies: these are findings and at
+-- most one reply more; the faults are those of the findings, in their order; and it ended so.
 pub record Reports (deeds : List Deed) (report : CheckReport) : Type 0 where
   pub findings : List Finding
   pub rest : List Deed
@@ -154,7 +159,8 @@ IsRead (Remove key why) = ⊥
 IsRead (RemoveAt key old why) = ⊥
 
 -- What a report says of the journal.
-pub record CheckTells (client : ℕ) (start : List Event) (report : CheckReport) (journal : List Event) : Type 0 where
+pub record CheckTells (client : ℕ) (start : List Event) (report : CheckReport)
+    (journal : List Event) : Type 0 where
   pub more : List Event
   pub since : journal ≡ start ++ more
   pub reports : Reports (deeds_behind client start journal) report

@@ -1,5 +1,6 @@
 -- What a check does, from its beginning to its end (own).
-use Rattle.std.specs.Prelude.{ℕ, zero, suc, Bool, true, false, if◌then◌else◌, List, [], ◌∷◌, ◌++◌, Option, Some, None, Result, Ok, Err}
+use Rattle.std.specs.Prelude.{ℕ, zero, suc, Bool, true, false, if◌then◌else◌}
+use Rattle.std.specs.Prelude.{List, [], ◌∷◌, ◌++◌, Option, Some, None, Result, Ok, Err}
 use Rattle.ice_ids.specs.declared.Id12.{Id12}
 use Rattle.ice_ids.specs.Text.{same_id12, initial_id}
 use Rattle.ice_ids.specs.Sets.{has_object}
@@ -29,7 +30,8 @@ use Rattle.intact.specs.Rows.{files_of}
 use Rattle.intact.specs.Parts.{parts_of}
 use Rattle.intact.specs.Told.{found_ref, found_snapshot, found_log, found_manifest, found_part}
 use Rattle.repo_check.specs.declared.standing.CheckReport.{CheckReport}
-use Rattle.repo_check.specs.Works.{Work, no_work, new_walk, has_file, has_part, meet_snapshot, meet_file, meet_part, tell, verdict}
+use Rattle.repo_check.specs.Works.{Work, no_work, new_walk, has_file, has_part}
+use Rattle.repo_check.specs.Works.{meet_snapshot, meet_file, meet_part, tell, verdict}
 
 -- ---- outcomes
 abbrev pub Answer : Type 0
@@ -75,7 +77,10 @@ told_ref key (Err kind) w = tell key kind w
 -- gets each of these refs
 unfoldable pub get_refs : List Key → List Id12 → Work → (List Id12 → Work → Answer) → Answer
 get_refs [] roots w next = next roots w
-get_refs (key ∷ keys) roots w next = asks (Get key) w (on_got w (λ got. get_refs keys (roots_with roots (found_ref got)) (told_ref key (found_ref got) w) next))
+get_refs (key ∷ keys) roots w next =
+    asks (Get key) w
+    (on_got w
+    (λ got. get_refs keys (roots_with roots (found_ref got)) (told_ref key (found_ref got) w) next))
 
 -- ---- parts of objects
 abbrev pub told_part : PartVisit → Result (Unit {0}) FaultKind → Work → Work
@@ -86,7 +91,8 @@ told_part p (Err kind) w = tell (Chunk p.object) kind (meet_part p w)
 unfoldable pub get_parts : List PartVisit → Work → (Work → Answer) → Answer
 get_parts [] w next = next w
 get_parts (p ∷ ps) w next = if has_part w.parts p then get_parts ps w next else
-    asks (Get (Chunk p.object)) w (on_got w (λ got. get_parts ps (told_part p (found_part p got) w) next))
+    asks (Get (Chunk p.object))
+    w (on_got w (λ got. get_parts ps (told_part p (found_part p got) w) next))
 
 -- ---- manifests
 abbrev pub after_file : FileVisit → Work → (Work → Answer) → Result ManifestFile FaultKind → Answer
@@ -97,7 +103,8 @@ after_file f w next (Err kind) = next (tell (Manifest f.manifest) kind (meet_fil
 unfoldable pub get_files : List FileVisit → Work → (Work → Answer) → Answer
 get_files [] w next = next w
 get_files (f ∷ fs) w next = if has_file w.files f then get_files fs w next else
-    asks (Get (Manifest f.manifest)) w (on_got w (λ got. after_file f w (λ v. get_files fs v next) (found_manifest f got)))
+    asks (Get (Manifest f.manifest))
+    w (on_got w (λ got. after_file f w (λ v. get_files fs v next) (found_manifest f got)))
 
 -- ---- logs
 abbrev pub told_log : Id12 → Result (Unit {0}) FaultKind → Work → Work
@@ -106,7 +113,9 @@ told_log id (Err kind) w = tell (Txn id) kind w
 
 -- gets the log of a snapshot; the initial one has none
 abbrev pub get_log : Id12 → Work → (Work → Answer) → Answer
-get_log id w next = if same_id12 id initial_id then next w else asks (Get (Txn id)) w (on_got w (λ got. next (told_log id (found_log id got) w)))
+get_log id w next =
+    if same_id12 id initial_id then next w
+    else asks (Get (Txn id)) w (on_got w (λ got. next (told_log id (found_log id got) w)))
 
 -- ---- snapshots
 -- A snapshot that this walk met is a ring, and one that an earlier walk met ends this one.
@@ -122,16 +131,22 @@ onward go (Some parent) w next = go parent w
 
 -- the log of a snapshot that was read, its manifests, and its parent
 abbrev pub read_on : (Id12 → Work → Answer) → Id12 → SnapshotFile → Work → (Work → Answer) → Answer
-read_on go id s w next = get_log id w (λ v. get_files (files_of s.nodes) v (λ u. onward go s.parent u next))
+read_on go id s w next =
+    get_log id w (λ v. get_files (files_of s.nodes) v (λ u. onward go s.parent u next))
 
-abbrev pub after_snapshot : (Id12 → Work → Answer) → Id12 → Work → (Work → Answer) → Result SnapshotFile FaultKind → Answer
+abbrev pub after_snapshot : (Id12 → Work → Answer) → Id12 → Work → (Work → Answer)
+    → Result SnapshotFile FaultKind → Answer
 after_snapshot go id w next (Ok s) = read_on go id s (meet_snapshot id w) next
 after_snapshot go id w next (Err kind) = next (tell (Snapshot id) kind (meet_snapshot id w))
 
--- gets the snapshots from this one along the parents, no more than so many, each with its log and manifests; `next` follows the walk
+-- gets the snapshots from this one along the parents, no more than so many, each with its log and
+-- manifests; `next` follows the walk
 unfoldable pub walk : ℕ → (Work → Answer) → Id12 → Work → Answer
 walk zero next id w = meets id w next (ends_with w (Err TooDeep))
-walk (suc left) next id w = meets id w next (asks (Get (Snapshot id)) w (on_got w (λ got. after_snapshot (walk left next) id w next (found_snapshot id got))))
+walk (suc left) next id w =
+    meets id w next
+    (asks (Get (Snapshot id))
+    w (on_got w (λ got. after_snapshot (walk left next) id w next (found_snapshot id got))))
 
 -- walks from each of these snapshots
 unfoldable pub walks : List Id12 → Work → Answer
@@ -140,11 +155,13 @@ walks (id ∷ ids) w = walk most_snapshots (walks ids) id (new_walk w)
 
 -- ---- all of it
 abbrev pub list_refs : Part → List Id12 → Work → (List Id12 → Work → Answer) → Answer
-list_refs part roots w next = asks (ListPart part) w (on_listed w (λ keys. get_refs keys roots w next))
+list_refs part roots w next =
+    asks (ListPart part) w (on_listed w (λ keys. get_refs keys roots w next))
 
 abbrev pub then_tags : List Id12 → Work → Answer
 then_tags roots w = list_refs Tags roots w walks
 
--- Lists the branches and gets each, then the tags without a tombstone; and walks from each snapshot that these name.
+-- Lists the branches and gets each, then the tags without a tombstone; and walks from
+-- each snapshot that these name.
 abbrev pub check_play : Answer
 check_play = list_refs Branches [] no_work then_tags

@@ -1,12 +1,14 @@
 -- What a check holds: what was met, and the faults (own).
-use Rattle.std.specs.Prelude.{◌≡◌, ℕ, Bool, true, false, if◌then◌else◌, List, [], ◌∷◌, ◌++◌, length, Result, Ok, Err}
+use Rattle.std.specs.Prelude.{◌≡◌, ℕ, Bool, true, false, if◌then◌else◌}
+use Rattle.std.specs.Prelude.{List, [], ◌∷◌, ◌++◌, length, Result, Ok, Err}
 use Rattle.std.specs.List.{list_any}
 use Rattle.std.specs.BTreeMap.{is_at}
 use Rattle.std.specs.BTreeSet.{insert_key}
 use Rattle.ice_ids.specs.declared.Id12.{Id12}
 use Rattle.ice_ids.specs.Sets.{with_object}
 use Rattle.object_store.specs.declared.keys.Key.{Key}
-use Rattle.object_store.specs.declared.keys.Key.TheVariants.{Snapshot, Manifest, Txn, Chunk, Branch, Tag, Tombstone, Lease}
+use Rattle.object_store.specs.declared.keys.Key.TheVariants.{Snapshot, Manifest, Txn, Chunk}
+use Rattle.object_store.specs.declared.keys.Key.TheVariants.{Branch, Tag, Tombstone, Lease}
 use Rattle.object_store.specs.Machine.{same_key}
 use Rattle.store_api.specs.declared.machines.Refusal.{Refusal}
 use Rattle.store_api.specs.declared.machines.Refusal.TheVariants.{Unsound}
@@ -28,7 +30,8 @@ and_fault key kind faults = faults ++ record { key = key; kind = kind } ∷ []
 abbrev pub unless_told : Key → FaultKind → List CheckFault → List CheckFault
 unless_told key kind faults = if has_fault faults key then faults else and_fault key kind faults
 
--- A manifest and an object with chunks, which several gets may be for, tell their first fault alone.
+-- A manifest and an object with chunks, which several gets may be
+-- for, tell their first fault alone.
 abbrev pub with_fault : Key → FaultKind → List CheckFault → List CheckFault
 with_fault (Manifest id) kind faults = unless_told (Manifest id) kind faults
 with_fault (Chunk id) kind faults = unless_told (Chunk id) kind faults
@@ -53,8 +56,8 @@ abbrev pub with_part : List PartVisit → PartVisit → List PartVisit
 with_part parts p = insert_key part_cmp parts p
 
 -- ---- all of it
--- the snapshots that were met, by any walk and by this one; the visits that were made of manifests and of parts; the objects of these
--- parts; and the faults in the order of finding
+-- the snapshots that were met, by any walk and by this one; the visits that were made of manifests
+-- and of parts; the objects of these parts; and the faults in the order of finding
 pub record Work : Type 0 where
   pub met : List Id12
   pub walk : List Id12

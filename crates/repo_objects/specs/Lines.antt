@@ -6,7 +6,8 @@ use Rattle.snapshot_file.specs.declared.nodes.ManifestRef.{ManifestRef}
 use Rattle.snapshot_file.specs.declared.nodes.NodeRow.{NodeRow}
 use Rattle.snapshot_file.specs.Snapshots.{manifests_named}
 
--- a set, in the order of the ids' bytes, and what is still to be taken of it, in the order of finding
+-- a set, in the order of the ids' bytes, and what is still to be taken
+-- of it, in the order of finding
 pub record Line : Type 0 where
   pub all : List Id12
   pub todo : List Id12
@@ -24,7 +25,10 @@ unless_found false id ids = ids ++ id ∷ []
 
 -- an id, where it is new
 abbrev pub enter : Id12 → Line → Line
-enter id q = record { all = with_object q.all id; todo = unless_found (has_object q.all id) id q.todo }
+enter id q = record {
+  all = with_object q.all id;
+  todo = unless_found (has_object q.all id) id q.todo;
+}
 
 abbrev pub enter_some : Option Id12 → Line → Line
 enter_some None q = q

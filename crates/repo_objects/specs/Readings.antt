@@ -1,7 +1,8 @@
--- What the bytes of an object stand for, under the id of its key, or why they stand for nothing. (Icechunk specification
--- version 1, "File Layout"; that a file tells the id of its key, and that the texts of a snapshot's nodes are metadata,
--- is own.)
-use Rattle.std.specs.Prelude.{ℕ, ◌+◌, ◌&&◌, ◌==◌, nat_lt, nat_le, if◌then◌else◌, List, [], ◌∷◌, length, take, drop, Option, Some, None, Result, Ok, Err}
+-- What the bytes of an object stand for, under the id of its key, or why they stand for nothing.
+-- (Icechunk specification version 1, "File Layout"; that a file tells the id of its key, and that
+-- the texts of a snapshot's nodes are metadata, is own.)
+use Rattle.std.specs.Prelude.{ℕ, ◌+◌, ◌&&◌, ◌==◌, nat_lt, nat_le, if◌then◌else◌, List, [], ◌∷◌}
+use Rattle.std.specs.Prelude.{length, take, drop, Option, Some, None, Result, Ok, Err}
 use Rattle.std.specs.List.{list_all}
 use Rattle.std.specs.Result.{result_ok}
 use Rattle.ice_ids.specs.declared.Id12.{Id12}
@@ -13,8 +14,8 @@ use Rattle.serde_json.specs.Data.{Data}
 use Rattle.json_words.specs.Reading.{text_member}
 use Rattle.zarr_meta.specs.declared.faults.MetaFault.{MetaFault}
 use Rattle.zarr_meta.specs.declared.faults.MetaFault.TheVariants.{NodeType}
-use Rattle.zarr_meta.specs.declared.views.View.{View}
-use Rattle.zarr_meta.specs.declared.views.View.TheVariants as view
+use Rattle.zarr_meta.specs.declared.views.MetaView.{MetaView}
+use Rattle.zarr_meta.specs.declared.views.MetaView.TheVariants as view
 use Rattle.zarr_meta.specs.Meta.{meta_of, json_of}
 use Rattle.snapshot_file.specs.declared.nodes.NodeKind.{NodeKind}
 use Rattle.snapshot_file.specs.declared.nodes.NodeKind.TheVariants as kind
@@ -48,7 +49,7 @@ under key own x = if same_id12 own key then Ok x else Err (WrongId own)
 -- ---- snapshots
 
 -- the fault of a row whose text says this: it is no metadata, or says another kind of node
-abbrev pub kind_fault : NodeKind → Result View MetaFault → Option MetaFault
+abbrev pub kind_fault : NodeKind → Result MetaView MetaFault → Option MetaFault
 kind_fault kind (Err fault) = Some fault
 kind_fault kind.Group (Ok view.Group) = None
 kind_fault kind.Group (Ok (view.Array array)) = Some NodeType
@@ -103,7 +104,9 @@ given offset size bytes = take size (drop offset bytes)
 
 -- the part of an object that is a chunk: it lies in the object and has as many bytes as a chunk
 abbrev pub read_chunk : (want offset size : ℕ) → List ℕ → Result (List ℕ) Bad
-read_chunk want offset size bytes = if nat_le (offset + size) (length bytes) && size == want then Ok (given offset size bytes) else Err (Chunk want (length (given offset size bytes)))
+read_chunk want offset size bytes =
+    if nat_le (offset + size) (length bytes) && size == want then Ok (given offset size bytes)
+    else Err (Chunk want (length (given offset size bytes)))
 
 -- ---- references
 abbrev pub id_in : Option (List ℕ) → Result Id12 Bad

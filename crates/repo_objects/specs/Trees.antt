@@ -1,6 +1,7 @@
--- The tree of a snapshot, by what was put. (Icechunk specification version 1, "Snapshots", "Manifests", "Chunks"; which
--- manifest of a node's list has a chunk is own.)
-use Rattle.std.specs.Prelude.{◌≡◌, ℕ, ◌+◌, nat_le, if◌then◌else◌, List, [], length, take, drop, map, Option, Some, None, option_and_then, IsSome}
+-- The tree of a snapshot, by what was put. (Icechunk specification version 1, "Snapshots",
+-- "Manifests", "Chunks"; which manifest of a node's list has a chunk is own.)
+use Rattle.std.specs.Prelude.{◌≡◌, ℕ, ◌+◌, nat_le, if◌then◌else◌, List, [], length, take}
+use Rattle.std.specs.Prelude.{drop, map, Option, Some, None, option_and_then, IsSome}
 use Rattle.std.specs.Option.{unwrap_or}
 use Rattle.std.specs.List.{Contains}
 use Rattle.std.specs.FinMap.{FinMap, from_entries}
@@ -40,7 +41,8 @@ pub record Puts : Type 0 where
 
 -- a part of an object
 abbrev pub part_of : (offset size : ℕ) → List ℕ → Option (List ℕ)
-part_of offset size bytes = if nat_le (offset + size) (length bytes) then Some (take size (drop offset bytes)) else None
+part_of offset size bytes =
+    if nat_le (offset + size) (length bytes) then Some (take size (drop offset bytes)) else None
 
 -- the bytes at a place
 abbrev pub bytes_at : Puts → Place → Option (List ℕ)
@@ -53,7 +55,8 @@ manifest_put puts id = option_and_then (manifest_by id) (puts.manifest id)
 
 -- what one store of puts has of readable manifests and of objects with chunks, another has too
 pub record Extends (p q : Puts) : Type 0 where
-  pub manifests : (id : Id12) (m : ManifestFile) → manifest_put p id ≡ Some m → manifest_put q id ≡ Some m
+  pub manifests : (id : Id12) (m : ManifestFile) → manifest_put p id ≡ Some m
+      → manifest_put q id ≡ Some m
   pub chunks : (id : Id12) (bytes : List ℕ) → p.chunk id ≡ Some bytes → q.chunk id ≡ Some bytes
 
 -- an unreadable manifest counts as one without chunks
@@ -67,7 +70,8 @@ listed puts manifests = map (λ m. (m.extents, or_empty m.id (manifest_put puts 
 -- where a row's chunk is, if it is an array's
 abbrev pub place_in : Puts → NodeRow → List ℕ → Option ArrayView → Option Place
 place_in puts row i None = None
-place_in puts row i (Some array) = chunk_place (length array.shape) row.id i (listed puts (manifests_named row.kind))
+place_in puts row i (Some array) =
+    chunk_place (length array.shape) row.id i (listed puts (manifests_named row.kind))
 
 abbrev pub place_under : Puts → NodeRow → List ℕ → Option Place
 place_under puts row i = place_in puts row i (array_in row.user_data)
@@ -105,10 +109,13 @@ tree_under puts rows = record {
   chunk = λ p i. chunk_under puts i (row_at rows p);
 }
 
--- all that the rows name was put and is readable: their manifests, and the bytes at the places of their chunks
+-- all that the rows name was put and is readable: their manifests, and the
+-- bytes at the places of their chunks
 pub record IsReadable (puts : Puts) (rows : List NodeRow) : Type 0 where
-  pub manifests : (p : List ℕ) (row : NodeRow) (m : ManifestRef) → row_at rows p ≡ Some row → Contains (manifests_named row.kind) m → IsSome (manifest_put puts m.id)
-  pub chunks : (p i : List ℕ) (row : NodeRow) (place : Place) → row_at rows p ≡ Some row → place_under puts row i ≡ Some place → IsSome (bytes_at puts place)
+  pub manifests : (p : List ℕ) (row : NodeRow) (m : ManifestRef) → row_at rows p ≡ Some row
+      → Contains (manifests_named row.kind) m → IsSome (manifest_put puts m.id)
+  pub chunks : (p i : List ℕ) (row : NodeRow) (place : Place) → row_at rows p ≡ Some row
+      → place_under puts row i ≡ Some place → IsSome (bytes_at puts place)
 
 -- the rows have a tree: all is readable, and it is well formed
 pub record HasTree (puts : Puts) (rows : List NodeRow) : Type 0 where

@@ -17,7 +17,7 @@ use ice_ids::Id12;
 use ice_items::Items;
 use std::alloc::Global;
 use std::marker::Model;
-use zarr_meta::{MetaFault, SharedMeta, View};
+use zarr_meta::{MetaFault, MetaView, SharedMeta};
 use zarr_tree::{Found, TreeLike};
 
 /// A snapshot whose file is held, and the metadata of its nodes. Contracts see what the snapshot says.
@@ -40,10 +40,10 @@ impl Model for Loaded {
 }
 
 /// Whether a text that says this may stand in a row.
-fn is_kind(row: &HeldNode, view: &View) -> bool
+fn is_kind(row: &HeldNode, view: &MetaView) -> bool
     ensures { result ≡ not (is_some (kind_fault row.now.kind (Ok view.now))) }
 {
-    row.is_array() == matches!(view, View::Array(_))
+    row.is_array() == matches!(view, MetaView::Array(_))
 }
 
 impl Loaded {

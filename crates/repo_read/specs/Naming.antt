@@ -1,5 +1,6 @@
--- What the answer to a name says of the journal, in words that name no machine and no program: what was named, and whether it is there.
--- `start` is the journal at the call. (Icechunk specification version 1, "Reference Files", "Tags".)
+-- What the answer to a name says of the journal, in words that name no machine and no program: what
+-- was named, and whether it is there. `start` is the journal at the call. (Icechunk specification
+-- version 1, "Reference Files", "Tags".)
 use Rattle.std.specs.Prelude.{◌≡◌, ◌⊎◌, ℕ, List, Some, Result, Ok, Err}
 use Rattle.ice_ids.specs.declared.Id12.{Id12}
 use Rattle.repo_objects.specs.declared.bad_objects.Bad.{Bad}
@@ -11,7 +12,8 @@ use Rattle.object_store.specs.declared.events.Event.{Event}
 use Rattle.store_api.specs.declared.machines.Refusal.{Refusal}
 use Rattle.store_api.specs.declared.machines.Refusal.TheVariants as R
 use Rattle.object_store.specs.Machine.{Stored, found}
-use Rattle.store_api.specs.Telling.{WasAbsent, MadeGets, WasRef, RefWasBad, SnapshotWasBad, WasPresent, WasFailure, GetsOf}
+use Rattle.store_api.specs.Telling.{WasAbsent, MadeGets, WasRef, RefWasBad}
+use Rattle.store_api.specs.Telling.{SnapshotWasBad, WasPresent, WasFailure, GetsOf}
 use Rattle.repo_read.specs.declared.resolving.At.{At}
 use Rattle.repo_read.specs.declared.resolving.Named.{Named}
 use Rattle.repo_read.specs.Resolving.{alone}
@@ -23,27 +25,32 @@ pub record TagNames (journal : List Event) (tag : List ℕ) (id : Id12) : Type 0
   pub names : ref_of stored.bytes ≡ Some id
 
 -- A tag named this snapshot; and still did when the client's own get found no tombstone of it.
-pub record WasTagged (client : ℕ) (tag : List ℕ) (id : Id12) (start journal : List Event) : Type 0 where
+pub record WasTagged (client : ℕ) (tag : List ℕ) (id : Id12)
+    (start journal : List Event) : Type 0 where
   pub version : Version
   pub read : WasRef client (Tag tag) version id start journal
   pub stands : WasAbsent client (Tombstone tag) start journal
   pub still : TagNames stands.own.before tag id
 
-pub record WasBranch (client : ℕ) (branch : List ℕ) (named : Named) (start journal : List Event) : Type 0 where
+pub record WasBranch (client : ℕ) (branch : List ℕ) (named : Named)
+    (start journal : List Event) : Type 0 where
   pub version : Version
   pub version_is : named.version ≡ Some version
   pub read : WasRef client (Branch branch) version named.id start journal
 
 -- this was named, as the client's own gets were answered
 abbrev pub WasResolved : ℕ → At → Named → List Event → List Event → Type 0
-WasResolved client (At.Branch branch) named start journal = WasBranch client branch named start journal
-WasResolved client (At.Tag tag) named start journal = (named ≡ alone named.id) × WasTagged client tag named.id start journal
+WasResolved client (At.Branch branch) named start journal =
+    WasBranch client branch named start journal
+WasResolved client (At.Tag tag) named start journal =
+    (named ≡ alone named.id) × WasTagged client tag named.id start journal
 WasResolved client (At.Snapshot id) named start journal = named ≡ alone id
 
 -- nothing was named: the branch was absent, or the tag, or it had a tombstone
 abbrev pub WasNothing : ℕ → At → List Event → List Event → Type 0
 WasNothing client (At.Branch branch) start journal = WasAbsent client (Branch branch) start journal
-WasNothing client (At.Tag tag) start journal = WasAbsent client (Tag tag) start journal ⊎ WasPresent client (Tombstone tag) start journal
+WasNothing client (At.Tag tag) start journal =
+    WasAbsent client (Tag tag) start journal ⊎ WasPresent client (Tombstone tag) start journal
 WasNothing client (At.Snapshot id) start journal = ⊥
 
 abbrev pub key_of : At → Key
@@ -62,7 +69,8 @@ pub record TargetWasAbsent (client : ℕ) (at : At) (start journal : List Event)
   pub absent : WasAbsent client (Snapshot named.id) start journal
 
 -- ... or isn't readable, for this cause
-pub record TargetWasBad (client : ℕ) (at : At) (key : Key) (bad : Bad) (start journal : List Event) : Type 0 where
+pub record TargetWasBad (client : ℕ) (at : At) (key : Key) (bad : Bad)
+    (start journal : List Event) : Type 0 where
   pub named : Named
   pub resolved : WasResolved client at named start journal
   pub unread : SnapshotWasBad client named.id key bad start journal
@@ -75,8 +83,12 @@ IsNaming (At.Snapshot id) key = ⊥
 
 -- What the answer to a name says.
 abbrev pub NamingTells : ℕ → At → List Event → Result Named Refusal → List Event → Type 0
-NamingTells client at start (Ok named) journal = WasResolved client at named start journal × MadeGets client start journal
-NamingTells client at start (Err R.NoRef) journal = WasNothing client at start journal × MadeGets client start journal
-NamingTells client at start (Err (R.BadFile key bad)) journal = WasUnnamed client at key bad start journal × MadeGets client start journal
-NamingTells client at start (Err R.StoreFault) journal = WasFailure client (GetsOf (IsNaming at)) start journal
+NamingTells client at start (Ok named) journal =
+    WasResolved client at named start journal × MadeGets client start journal
+NamingTells client at start (Err R.NoRef) journal =
+    WasNothing client at start journal × MadeGets client start journal
+NamingTells client at start (Err (R.BadFile key bad)) journal =
+    WasUnnamed client at key bad start journal × MadeGets client start journal
+NamingTells client at start (Err R.StoreFault) journal =
+    WasFailure client (GetsOf (IsNaming at)) start journal
 NamingTells client at start (Err _) journal = ⊥

@@ -1,4 +1,5 @@
--- The programs that read a ref, a snapshot, a log, a manifest and a chunk. (Icechunk specification version 1, "Read from Repository".)
+-- The programs that read a ref, a snapshot, a log, a manifest and a chunk. (Icechunk specification
+-- version 1, "Read from Repository".)
 use Rattle.std.specs.Prelude.{ℕ, List}
 use Rattle.ice_ids.specs.declared.Id12.{Id12}
 use Rattle.snapshot_file.specs.declared.snapshot.SnapshotFile.{SnapshotFile}
@@ -7,7 +8,8 @@ use Rattle.txn_file.specs.declared.log.TxnFile.{TxnFile}
 use Rattle.object_store.specs.declared.keys.Key.TheVariants.{Snapshot, Manifest, Txn, Chunk, Branch}
 use Rattle.object_store.specs.declared.events.Op.TheVariants.{Get}
 use Rattle.store_api.specs.declared.machines.Refusal.{Refusal}
-use Rattle.store_api.specs.declared.machines.Refusal.TheVariants.{NoRef, Missing, BadFile, StoreFault, NoMemory}
+use Rattle.store_api.specs.declared.machines.Refusal.TheVariants.{NoRef, Missing, BadFile}
+use Rattle.store_api.specs.declared.machines.Refusal.TheVariants.{StoreFault, NoMemory}
 use Rattle.store_api.specs.Program.{Done, Ask}
 use Rattle.store_api.specs.Running.{Program}
 use Rattle.repo_read.specs.declared.answers.Resolved.{Resolved}
@@ -31,7 +33,8 @@ log_program id = Ask (Get (Txn id)) (λ reply. Done (log_told id reply))
 
 -- gets an object, for the chunk of `want` bytes in this part of it
 abbrev pub object_program : (want : ℕ) → Id12 → (offset size : ℕ) → Program (List ℕ)
-object_program want id offset size = Ask (Get (Chunk id)) (λ reply. Done (object_told want id offset size reply))
+object_program want id offset size =
+    Ask (Get (Chunk id)) (λ reply. Done (object_told want id offset size reply))
 
 -- the refusals of a reading
 abbrev pub MayRefuseRef : Refusal → Type 0

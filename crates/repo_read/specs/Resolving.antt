@@ -1,4 +1,5 @@
--- What a branch, a tag or an id names, and the program that reads it. (Icechunk specification version 1, "Reference Files", "Tags".)
+-- What a branch, a tag or an id names, and the program that reads it. (Icechunk specification
+-- version 1, "Reference Files", "Tags".)
 use Rattle.std.specs.Prelude.{ℕ, List, Some, None, Result, Ok, Err}
 use Rattle.ice_ids.specs.declared.Id12.{Id12}
 use Rattle.snapshot_file.specs.declared.snapshot.SnapshotFile.{SnapshotFile}
@@ -9,7 +10,8 @@ use Rattle.object_store.specs.declared.events.Got.TheVariants.{Found, Absent}
 use Rattle.object_store.specs.declared.events.Reply.{Reply}
 use Rattle.object_store.specs.declared.events.Reply.TheVariants.{Got}
 use Rattle.store_api.specs.declared.machines.Refusal.{Refusal}
-use Rattle.store_api.specs.declared.machines.Refusal.TheVariants.{NoRef, Missing, BadFile, StoreFault, NoMemory}
+use Rattle.store_api.specs.declared.machines.Refusal.TheVariants.{NoRef, Missing, BadFile}
+use Rattle.store_api.specs.declared.machines.Refusal.TheVariants.{StoreFault, NoMemory}
 use Rattle.store_api.specs.Program.{Done, Ask}
 use Rattle.store_api.specs.Running.{Program, ◌>>=◌}
 use Rattle.repo_read.specs.Answers.{at_key, snapshot_told}
@@ -41,7 +43,8 @@ tag_program tag = Ask (Get (Tag tag)) (λ reply. Done (tag_told tag reply))
 abbrev pub tombstone_program : (tag : List ℕ) → Id12 → Program Id12
 tombstone_program tag id = Ask (Get (Tombstone tag)) (λ reply. Done (tombstone_told id reply))
 
--- gets what names a snapshot: a branch, or a tag and then its tombstone; for an id there is nothing to get
+-- gets what names a snapshot: a branch, or a tag and then its tombstone;
+-- for an id there is nothing to get
 abbrev pub resolve_at_program : At → Program Named
 resolve_at_program (At.Branch name) = do
   read ← resolve_program name
@@ -53,7 +56,8 @@ resolve_at_program (At.Tag name) = do
 resolve_at_program (At.Snapshot id) = Done (Ok (alone id))
 
 -- ---- the snapshot that was named
--- own: of a snapshot that its own id names, absence is that of a ref; of one that a branch or a tag names, it isn't
+-- own: of a snapshot that its own id names, absence is that of a ref; of one that a
+-- branch or a tag names, it isn't
 abbrev pub no_ref : Refusal → Refusal
 no_ref (Missing key) = NoRef
 no_ref why = why

@@ -18,7 +18,8 @@ use Rattle.repo_read.specs.declared.resolving.Resolving.TheVariants as Get_of
 use Rattle.repo_read.specs.declared.resolving.Resolution.{Resolution}
 use Rattle.repo_read.specs.declared.resolving.Resolution.TheVariants.{Known, Asks}
 use Rattle.repo_read.specs.declared.resolving.Resolve.{Resolve}
-use Rattle.repo_read.specs.Resolving.{alone, tag_told, tombstone_told, tombstone_program, tag_program}
+use Rattle.repo_read.specs.Resolving.{alone, tag_told, tombstone_told}
+use Rattle.repo_read.specs.Resolving.{tombstone_program, tag_program}
 
 -- how the resolution begins
 abbrev pub resolution_at : At → Resolution
@@ -39,15 +40,23 @@ mapped f (Err why) = Err why
 
 -- what the reply to it tells
 abbrev pub told_next : Resolving → Reply → Result Resolution Refusal
-told_next (Get_of.Branch name) reply = mapped (λ (read : Resolved). Known (record { id = read.id; version = Some read.version })) (ref_told name reply)
-told_next (Get_of.Tag name) reply = mapped (λ id. Asks (Get_of.Tombstone name id)) (tag_told name reply)
-told_next (Get_of.Tombstone name id) reply = mapped (λ found. Known (alone found)) (tombstone_told id reply)
+told_next (Get_of.Branch name) reply =
+    mapped (λ (read : Resolved). Known (record { id = read.id; version = Some read.version }))
+    (ref_told name reply)
+told_next (Get_of.Tag name) reply =
+    mapped (λ id. Asks (Get_of.Tombstone name id)) (tag_told name reply)
+told_next (Get_of.Tombstone name id) reply =
+    mapped (λ found. Known (alone found)) (tombstone_told id reply)
 
 -- what is still to be done from a get on
 abbrev pub resolving_rest : Resolving → Program Named
-resolving_rest (Get_of.Branch name) = resolve_program name >>= λ read. Done (Ok (record { id = read.id; version = Some read.version }))
-resolving_rest (Get_of.Tag name) = tag_program name >>= λ tagged. tombstone_program name tagged >>= λ id. Done (Ok (alone id))
-resolving_rest (Get_of.Tombstone name id) = tombstone_program name id >>= λ found. Done (Ok (alone found))
+resolving_rest (Get_of.Branch name) =
+    resolve_program name
+    >>= λ read. Done (Ok (record { id = read.id; version = Some read.version }))
+resolving_rest (Get_of.Tag name) =
+    tag_program name >>= λ tagged. tombstone_program name tagged >>= λ id. Done (Ok (alone id))
+resolving_rest (Get_of.Tombstone name id) =
+    tombstone_program name id >>= λ found. Done (Ok (alone found))
 
 abbrev pub resolving_left : Resolving → ℕ
 resolving_left (Get_of.Branch name) = 1

@@ -1,7 +1,7 @@
 //! What replies to the gets of refs, snapshots, logs, manifests and objects with chunks tell.
 
 ghost use Rattle.std.specs.Prelude.{◌≡◌, IfErr};
-ghost use Rattle.repo_read.specs.Answers.{ref_told, snapshot_told, manifest_told, log_told, object_told, Answers};
+ghost use Rattle.repo_read.specs.Answers.{ref_told, snapshot_told, manifest_told, log_told, object_told, Answers, AnswersOutright};
 ghost use Rattle.repo_read.specs.Programs.{MayRefuseRef, MayRefuseObject};
 
 use held_log::HeldLog;
@@ -22,9 +22,10 @@ pub struct Resolved {
 }
 
 /// What a reply to the get of a branch tells. Refusals: `NoRef` where it was absent, `BadFile` where its bytes are no
-/// reference, `StoreFault` where the get failed, or `NoMemory`.
+/// reference, `StoreFault` where the get failed, or, where there are bytes, `NoMemory`.
 pub fn ref_told(alloc: Global, branch: &RefName, reply: Reply) -> Result<Resolved, Refusal>
     ensures told { Answers (ref_told branch.now reply) result }
+    ensures outright { AnswersOutright reply (ref_told branch.now reply) result }
     ensures listed { IfErr result MayRefuseRef }
 {
     let Reply::Got(got) = reply else {
@@ -49,9 +50,10 @@ pub fn ref_told(alloc: Global, branch: &RefName, reply: Reply) -> Result<Resolve
 }
 
 /// What a reply to the get of a snapshot tells, which holds its file. Refusals: `Missing` where it was absent, `BadFile` where its bytes are no
-/// snapshot of this id, `StoreFault` where the get failed, or `NoMemory`.
+/// snapshot of this id, `StoreFault` where the get failed, or, where there are bytes, `NoMemory`.
 pub fn snapshot_told(alloc: Global, id: Id12, reply: Reply) -> Result<Loaded, Refusal>
     ensures told { Answers (snapshot_told id reply) result }
+    ensures outright { AnswersOutright reply (snapshot_told id reply) result }
     ensures listed { IfErr result MayRefuseObject }
 {
     let Reply::Got(got) = reply else {

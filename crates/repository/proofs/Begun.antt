@@ -7,7 +7,7 @@ use Rattle.store_api.specs.declared.machines.Refusal.TheVariants.{RefExists, Sto
 use Rattle.store_api.specs.Callers.{View}
 use Rattle.store_api.specs.Program.{Prog, Done, Ask, IsAsk, bind, Path}
 use Rattle.store_api.specs.Running.{Program, IsCutOff, Runs}
-use Rattle.refs_admin.specs.Beginning.{init_program, MayRefuseInit}
+use Rattle.refs_admin.specs.NewRepository.{init_program, MayRefuseInit}
 use Rattle.repository.specs.Beginning.{begun, begin_program, MayRefuseBegin}
 
 path-bind : {A B : Type 0} (p q : Prog A) (f : A → Prog B) (own : List Event) → Path p own q → Path (bind p f) own (bind q f)

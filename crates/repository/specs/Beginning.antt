@@ -1,11 +1,11 @@
--- The program that begins a repository (Icechunk specification version 1, "Initialize New Repository"): one is made,
--- and one that is there stays.
+-- The program that begins a repository (Icechunk specification version 1, "Initialize New
+-- Repository"): one is made, and one that is there stays.
 use Rattle.std.specs.Prelude.{Result, Ok, Err}
 use Rattle.store_api.specs.declared.machines.Refusal.{Refusal}
 use Rattle.store_api.specs.declared.machines.Refusal.TheVariants.{RefExists, StoreFault, NoMemory}
 use Rattle.store_api.specs.Program.{Done, bind}
 use Rattle.store_api.specs.Running.{Program}
-use Rattle.refs_admin.specs.Beginning.{init_program}
+use Rattle.refs_admin.specs.NewRepository.{init_program}
 
 -- that `main` was there is fine
 abbrev pub begun : Result (Unit {0}) Refusal → Result (Unit {0}) Refusal

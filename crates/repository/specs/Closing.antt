@@ -1,5 +1,5 @@
--- What the lines of a reading tell of the refs that stand (Icechunk specification version 1, "Reference Files";
--- tombstones of tags are own).
+-- What the lines of a reading tell of the refs that stand (Icechunk specification version 1,
+-- "Reference Files"; tombstones of tags are own).
 use Rattle.std.specs.Prelude.{◌≡◌, ◌↔◌, ℕ, ◌<◌, true, false, List, ◌++◌, Some, None, Ok, slice_get}
 use Rattle.std.specs.declared.cmp.Ordering.{Ordering}
 use Rattle.std.specs.declared.cmp.Ordering.TheVariants.{Less}
@@ -35,22 +35,30 @@ pub record NamesAt (journal : List Event) (key : Key) (id : Id12) : Type 0 where
 
 -- what stands at the key, if anything does, is a reference
 abbrev pub IsNamed : List Event → Key → Type 0
-IsNamed journal key = (s : Stored) → found journal key ≡ Some s → (id : Id12) × (ref_of s.bytes ≡ Some id)
+IsNamed journal key =
+    (s : Stored) → found journal key ≡ Some s → (id : Id12) × (ref_of s.bytes ≡ Some id)
 
 -- the branches before the tags, and each by their names
 abbrev pub line_cmp : RefLine → RefLine → Ordering
 line_cmp a b = ordering_then (bool_cmp a.tag b.tag) (slice_cmp nat_cmp a.name b.name)
 
--- The lines are those of the refs that stand: of each branch, and of each tag without a tombstone, one line with
--- the snapshot that it names; none of them is unreadable, and the lines are in order.
+-- The lines are those of the refs that stand: of each branch, and of each tag without a tombstone,
+-- one line with the snapshot that it names; none of them is unreadable, and the lines are in order.
 pub record TellsRefs (journal : List Event) (lines : List RefLine) : Type 0 where
-  pub branches : (name : List ℕ) (id : Id12) → (HasLine lines (branch_line name id) ↔ NamesAt journal (Branch name) id)
-  pub tags : (name : List ℕ) (id : Id12) → (HasLine lines (tag_line name id) ↔ (NamesAt journal (Tag name) id × (found journal (Tombstone name) ≡ None)))
+  pub branches : (name : List ℕ) (id : Id12)
+      → (HasLine lines (branch_line name id) ↔ NamesAt journal (Branch name) id)
+  pub tags : (name : List ℕ) (id : Id12)
+      → (HasLine lines (tag_line name id)
+      ↔ (NamesAt journal (Tag name) id × (found journal (Tombstone name) ≡ None)))
   pub named_branches : (name : List ℕ) → IsNamed journal (Branch name)
-  pub named_tags : (name : List ℕ) → found journal (Tombstone name) ≡ None → IsNamed journal (Tag name)
-  pub ascending : (j k : ℕ) (a b : RefLine) → j < k → slice_get lines j ≡ Some a → slice_get lines k ≡ Some b → line_cmp a b ≡ Less
+  pub named_tags : (name : List ℕ) → found journal (Tombstone name) ≡ None
+      → IsNamed journal (Tag name)
+  pub ascending : (j k : ℕ) (a b : RefLine) → j < k → slice_get lines j ≡ Some a
+      → slice_get lines k ≡ Some b → line_cmp a b ≡ Less
 
--- The closing reading: where the reader's events are all that came, the lines that it ends with are those of the
--- refs that stand after them.
+-- The closing reading: where the reader's events are all that came, the lines that it ends with are
+-- those of the refs that stand after them.
 abbrev pub RefsLaw : Type 0
-RefsLaw = (old own : List Event) (lines : List RefLine) → Each IsGood old own → Path refs_program own (Done (Ok lines)) → TellsRefs (old ++ own) lines
+RefsLaw =
+    (old own : List Event) (lines : List RefLine) → Each IsGood old own
+    → Path refs_program own (Done (Ok lines)) → TellsRefs (old ++ own) lines

@@ -1,5 +1,6 @@
 -- The machine that reads all refs: what it has still to do.
-use Rattle.std.specs.Prelude.{◌≡◌, ℕ, ◌+◌, ◌-◌, ◌^◌, List, [], ◌∷◌, drop, length, Option, Result, Ok, Err, false}
+use Rattle.std.specs.Prelude.{◌≡◌, ℕ, ◌+◌, ◌-◌, ◌^◌, List, [], ◌∷◌, drop}
+use Rattle.std.specs.Prelude.{length, Option, Result, Ok, Err, false}
 use Rattle.object_store.specs.declared.events.Entry.{Entry}
 use Rattle.store_api.specs.declared.machines.Refusal.{Refusal}
 use Rattle.store_api.specs.declared.machines.Refusal.TheVariants.{NoMemory}
@@ -52,6 +53,8 @@ Answers p (Ok a) = p ≡ Done (Ok a)
 Answers p (Err refusal) = is_no_memory refusal ≡ false → p ≡ Done (Err refusal)
 
 -- the line that the program ends with, if any, was put behind the lines
-abbrev pub AddsLine : Program (Option RefLine) → List RefLine → List RefLine → Result (Unit {0}) Refusal → Type 0
-AddsLine p old new (Ok done) = (line : Option RefLine) × (p ≡ Done (Ok line)) × (new ≡ with_line old line)
+abbrev pub AddsLine : Program (Option RefLine) → List RefLine → List RefLine
+    → Result (Unit {0}) Refusal → Type 0
+AddsLine p old new (Ok done) =
+    (line : Option RefLine) × (p ≡ Done (Ok line)) × (new ≡ with_line old line)
 AddsLine p old new (Err refusal) = is_no_memory refusal ≡ false → p ≡ Done (Err refusal)

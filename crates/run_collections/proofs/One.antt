@@ -1,6 +1,5 @@
 -- One collection of a run: what it dooms, nothing needs.
 use Rattle.std.proofs.Common.{◌≡◌, inl, inr, ℕ, ◌+◌, List, [], ◌∷◌, ◌++◌, refl, sym, ◌∙◌, ap, subst, append_assoc, append-nil}
-use Rattle.std.specs.Prelude.{Contains}
 use Rattle.ice_ids.specs.declared.Id12.{Id12}
 use Rattle.ice_ids.specs.declared.drawing.Draw.{Draw}
 use Rattle.zarr_tree.specs.Changes.{Changes}
@@ -12,13 +11,12 @@ use Rattle.reach.specs.Own.{OwnLaw}
 use Rattle.collecting.specs.Walks.{Walk, Doomed}
 use Rattle.collecting.specs.Runs.{walk_of, OwesCollecting}
 use Rattle.history_laws.specs.Collections as laws
-use Rattle.history_laws.specs.Laws as kept
-use Rattle.history_laws.specs.Collections.{Collection, DoomedBy, Owes, IsNotBefore, IsPreceded, CommitsOwn, IsQuiet, IsListed, IsCollected, Collects}
+use Rattle.history_laws.specs.Collections.{Collection, DoomedBy, OwesUntil, IsNotBefore, IsPreceded, CommitsOwn, IsQuiet, IsListed, IsCollected, Collects}
 use Rattle.history_laws.specs.Refs.{Commits}
-use Rattle.history_laws.specs.Laws.{collection_of, ClientCollects, CommitsChild, RefsKept, BasesKept, LeasesKept, PutsKept, AnchoredReached}
+use Rattle.history_laws.specs.Laws.{collection_of, ClientCollects, CommitsChild, RefsKept, BasesKept, LeasesKept, PassedNone, PutsKept, AnchoredReached}
 use Rattle.play_script.specs.declared.scripts.Task.{Task}
 use Rattle.run_histories.specs.Told.{HasHistories}
-use Rattle.run_collections.specs.Beside.{CollectsAt, walk_at, DoomedAt, PassedNone, HasBegun, IsNotEarlier, Precedes, CommitsBeside, LeavesAlone, IsSafe}
+use Rattle.run_collections.specs.Beside.{CollectsAt, walk_at, DoomedAt, HasBegun, IsNotEarlier, Precedes, CommitsBeside, LeavesAlone, IsSafe}
 use Rattle.run_collections.specs.Keeping.{DoomsNothingNeeded}
 use Rattle.run_collections.proofs.Moments.{Each-where}
 use Rattle.run_collections.proofs.Commits.{IsSessions, commit-own}
@@ -74,11 +72,11 @@ module _ (owns : OwnLaw) (clients : ClientCollects) (child : CommitsChild) (draw
     doomed-back : (key : Key) → DoomedBy c (journal ++ []) key → DoomedAt place cutoff start journal key
     doomed-back key d = subst (λ (w : Walk). Doomed cutoff w key) walk-here (subst (λ (j : List Event). DoomedBy c j key) (append-nil journal) d)
 
-    passed-fore : (base : Id12) → PassedNone place cutoff start journal base → kept.PassedNone c journal base
-    passed-fore base passed key absent = passed key (subst (λ (w : Walk). Contains w.absent key) walk-here absent)
+    passed-fore : (base : Id12) → PassedNone (walk_at place cutoff start journal) journal base → PassedNone (laws.walk_at c journal) journal base
+    passed-fore base passed = subst (λ (w : Walk). PassedNone w journal base) (sym walk-here) passed
 
     -- ---- what it owes
-    pub owes-here : Each (Owes c) start since
+    pub owes-here : Each (OwesUntil c) start since
     owes-here =
         let P : List Event → Event → Type 0 = OwesCollecting cutoff (place + 1) start in
         clients.owes cutoff (place + 1) start since (Each-back P start since rest (subst (Each P start) part (h.collections.collecting place at.task cutoff at.at at.head_is))).0
@@ -92,7 +90,7 @@ module _ (owns : OwnLaw) (clients : ClientCollects) (child : CommitsChild) (draw
       once = once-here;
       more = since;
       is = refl;
-      owes = subst (Each (Owes c) start) (sym (append-nil since)) owes-here;
+      owes = subst (Each (OwesUntil c) start) (sym (append-nil since)) owes-here;
       listed = ap (λ (w : Walk). w.lists) walk-here ∙ four;
     }
 

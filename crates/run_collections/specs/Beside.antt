@@ -1,10 +1,8 @@
--- A collection of a run, and what it asks of those beside it. (Icechunk's manual, "Expiring Data", "Garbage collection": the cutoff precedes the oldest
--- open session; own.)
-use Rattle.std.specs.Prelude.{◌≡◌, ◌≢◌, ◌⊎◌, ℕ, ◌+◌, ◌≤◌, List, ◌∷◌, ◌++◌, Contains, Some, slice_get}
+-- A collection of a run, and what it asks of those beside it. (Icechunk's manual, "Expiring Data",
+-- "Garbage collection": the cutoff precedes the oldest open session; own.)
+use Rattle.std.specs.Prelude.{◌≡◌, ◌⊎◌, ℕ, ◌+◌, ◌≤◌, List, ◌∷◌, ◌++◌, Some, slice_get}
 use Rattle.ice_ids.specs.declared.Id12.{Id12}
-use Rattle.ice_ids.specs.Text.{initial_id}
 use Rattle.object_store.specs.declared.keys.Key.{Key}
-use Rattle.object_store.specs.declared.keys.Key.TheVariants.{Snapshot}
 use Rattle.object_store.specs.declared.events.Event.{Event}
 use Rattle.store_api.specs.Journal.{Each}
 use Rattle.reach.specs.Holding.{Reaches}
@@ -31,22 +29,22 @@ pub record OpensAt (tasks : List Task) (place : ℕ) (access : Access) : Type 0 
 abbrev pub walk_at : (place cutoff : ℕ) → (start journal : List Event) → Walk
 walk_at place cutoff start journal = walk_of cutoff (place + 1) start journal
 
--- It dooms the key: all objects are listed, and this is the key of one that is older than the cutoff, and that nothing marks which its gets answered.
+-- It dooms the key: all objects are listed, and this is the key of one that is older than the
+-- cutoff, and that nothing marks which its gets answered.
 abbrev pub DoomedAt : (place cutoff : ℕ) → (start journal : List Event) → Key → Type 0
 DoomedAt place cutoff start journal key = Doomed cutoff (walk_at place cutoff start journal) key
 
 -- it was told the branches by now
 abbrev pub HasBegun : (place cutoff : ℕ) → (start journal : List Event) → Type 0
-HasBegun place cutoff start journal = (left : List Key) × ((walk_at place cutoff start journal).branches ≡ Some left)
-
--- what it found absent, it passed over, and the base reaches nothing of that, but maybe the initial snapshot
-abbrev pub PassedNone : (place cutoff : ℕ) → (start journal : List Event) → (base : Id12) → Type 0
-PassedNone place cutoff start journal base = (key : Key) → Contains (walk_at place cutoff start journal).absent key → key ≢ Snapshot initial_id → Reaches journal base key → ⊥
+HasBegun place cutoff start journal =
+    (left : List Key) × ((walk_at place cutoff start journal).branches ≡ Some left)
 
 -- ---- sessions
--- An event of the client of the task at the other place isn't earlier than the cutoff, but where the collection had begun before.
+-- An event of the client of the task at the other place isn't earlier than the cutoff, but where
+-- the collection had begun before.
 abbrev pub IsNotEarlier : (place cutoff other : ℕ) → (start before : List Event) → Event → Type 0
-IsNotEarlier place cutoff other start before event = event.client ≡ other + 1 → HasBegun place cutoff start before ⊎ (cutoff ≤ event.time)
+IsNotEarlier place cutoff other start before event =
+    event.client ≡ other + 1 → HasBegun place cutoff start before ⊎ (cutoff ≤ event.time)
 
 -- the cutoff precedes the session of that task, as far as it has come
 abbrev pub Precedes : (place cutoff other : ℕ) → (start since : List Event) → Type 0
@@ -65,12 +63,19 @@ pub record CommitsBeside (place cutoff other : ℕ) (start since : List Event) :
   pub commits : Commits (start ++ seen) event base id
 
 -- ---- refs
--- Where the collection had begun before, the event makes or resets no branch, and makes no tag, at a snapshot that reaches such a key.
-abbrev pub LeavesAlone : (doomed : Key → Type 0) → (place cutoff : ℕ) → (start before : List Event) → Event → Type 0
-LeavesAlone doomed place cutoff start before event = HasBegun place cutoff start before → (id : Id12) → Points before event id → (key : Key) → Reaches before id key → doomed key → ⊥
+-- Where the collection had begun before, the event makes or resets no branch, and makes no tag, at
+-- a snapshot that reaches such a key.
+abbrev pub LeavesAlone : (doomed : Key → Type 0) → (place cutoff : ℕ)
+    → (start before : List Event) → Event → Type 0
+LeavesAlone doomed place cutoff start before event =
+    HasBegun place cutoff start before → (id : Id12) → Points before event id → (key : Key)
+    → Reaches before id key → doomed key → ⊥
 
 -- ---- both
--- From the tasks' start up to this moment: the cutoff precedes each session that committed beside the collection, and it was quiet.
+-- From the tasks' start up to this moment: the cutoff precedes each session that committed beside
+-- the collection, and it was quiet.
 pub record IsSafe (tasks : List Task) (place cutoff : ℕ) (start since : List Event) : Type 0 where
-  pub precedes : (other : ℕ) (access : Access) → OpensAt tasks other access → CommitsBeside place cutoff other start since → Precedes place cutoff other start since
-  pub quiet : Each (LeavesAlone (DoomedAt place cutoff start (start ++ since)) place cutoff start) start since
+  pub precedes : (other : ℕ) (access : Access) → OpensAt tasks other access
+      → CommitsBeside place cutoff other start since → Precedes place cutoff other start since
+  pub quiet : Each (LeavesAlone (DoomedAt place cutoff start (start ++ since)) place cutoff start)
+      start since

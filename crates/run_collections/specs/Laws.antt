@@ -11,4 +11,8 @@ use Rattle.run_collections.specs.Keeping.{KeepsNeeded}
 
 -- of each run whose branches have their histories, and whose outcomes tell the journal
 abbrev pub NeededLaw : Type 0
-NeededLaw = (draw : Draw) (tasks : List Task) (before : ℕ → Changes) (outcomes : List Outcome) (old start new : List Event) → HasHistories draw tasks before old start new → AllTold draw tasks outcomes start new → KeepsNeeded draw tasks outcomes old start new
+NeededLaw =
+    (draw : Draw) (tasks : List Task) (before : ℕ → Changes)
+    (outcomes : List Outcome) (old start new : List Event)
+    → HasHistories draw tasks before old start new → AllTold draw tasks outcomes start new
+    → KeepsNeeded draw tasks outcomes old start new

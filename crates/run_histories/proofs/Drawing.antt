@@ -10,7 +10,7 @@ use Rattle.ice_ids.specs.Drawing.{draw_of, client_of, drawn12, after12, after8, 
 use Rattle.ice_ids.specs.Sources.{any_source12, any_source8}
 use Rattle.ice_ids.proofs.Drawn.{after8-draw, after12-draw, ids_of-draw, ids_of-client}
 use Rattle.zarr_meta.specs.declared.faults.MetaFault.{MetaFault}
-use Rattle.zarr_meta.specs.declared.views.View.{View}
+use Rattle.zarr_meta.specs.declared.views.MetaView.{MetaView}
 use Rattle.store_api.specs.declared.machines.Refusal.{Refusal}
 use Rattle.session.specs.Sessions.{SessionState}
 use Rattle.session.specs.Editing.{added, meta_set, node_dropped, prop_added}
@@ -52,13 +52,13 @@ drawn12-of draw client ids known = (after12-draw ids ∙ known.0, any_source12.k
 
 module _ (draw : Draw) (client : ℕ) where
   -- a session to which a node was added still draws for its client
-  added-draws : (fault : Result View MetaFault → Option MetaFault) (s t : SessionState) (path text : List ℕ) (new : Id8) → TellsFaults fault → AreOf draw client s.ids → added fault s path text ≡ Ok (new, t) → AreOf draw client t.ids
+  added-draws : (fault : Result MetaView MetaFault → Option MetaFault) (s t : SessionState) (path text : List ℕ) (new : Id8) → TellsFaults fault → AreOf draw client s.ids → added fault s path text ≡ Ok (new, t) → AreOf draw client t.ids
   added-draws fault s t path text new tells known e =
       let a : Added s t path text new = node-added fault s t path text new tells e in
       let ids : t.ids ≡ after8 s.ids = ap (λ (x : SessionState). x.ids) a.is in
       subst (AreOf draw client) (sym ids) (drawn8-of draw client s.ids known)
 
-  taken-draws : (fault : Result View MetaFault → Option MetaFault) (s t : SessionState) (path text : List ℕ) → TellsFaults fault → AreOf draw client s.ids → (r : Result (Id8 × SessionState) Refusal) → added fault s path text ≡ r → session_of r ≡ Ok t → AreOf draw client t.ids
+  taken-draws : (fault : Result MetaView MetaFault → Option MetaFault) (s t : SessionState) (path text : List ℕ) → TellsFaults fault → AreOf draw client s.ids → (r : Result (Id8 × SessionState) Refusal) → added fault s path text ≡ r → session_of r ≡ Ok t → AreOf draw client t.ids
   taken-draws fault s t path text tells known (Err why) e d = absurd cc
   taken-draws fault s t path text tells known (Ok new) e d = let same : new.1 ≡ t = cc in subst (λ (x : SessionState). AreOf draw client x.ids) same (added-draws fault s new.1 path text new.0 tells known e)
 

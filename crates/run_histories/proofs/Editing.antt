@@ -11,7 +11,7 @@ use Rattle.zarr_path.specs.declared.keys.ZarrKey.TheVariants as zarr
 use Rattle.zarr_path.specs.Keys.{key_of}
 use Rattle.zarr_path.proofs.KeyLaws.{key_law}
 use Rattle.zarr_meta.specs.declared.faults.MetaFault.{MetaFault}
-use Rattle.zarr_meta.specs.declared.views.View.{View}
+use Rattle.zarr_meta.specs.declared.views.MetaView.{MetaView}
 use Rattle.zarr_tree.specs.Nodes.{Node}
 use Rattle.zarr_tree.specs.Changes.{IsNormal}
 use Rattle.zarr_tree.specs.Touched.{lists}
@@ -41,7 +41,7 @@ use Rattle.script_calls.specs.declared.calls.ReadCall.TheVariants.{List as List_
 use Rattle.play_script.specs.declared.scripts.Line.{Line}
 use Rattle.play_script.specs.Well.{IsWellEdit, IsWellCall, IsWellLine}
 use Rattle.play_outcome.specs.declared.outcome.Shown.{Shown}
-use Rattle.play_tasks.specs.Lines.{Deed, Goes, Sets, Reads, Puts, Gathers, Leases, Commits, deed, edit_deed, read_deed, read_by, key_shown, key_set_deed, key_get_deed, silent, still}
+use Rattle.play_tasks.specs.Lines.{LineDeed, Goes, Sets, Reads, Puts, Gathers, Leases, Commits, deed, edit_deed, read_deed, read_by, key_shown, key_set_deed, key_get_deed, silent, still}
 use Rattle.play_tasks.specs.Solving.{DidPlay, PlaysAll}
 use Rattle.region_calls.specs.Written.{AreSet}
 use Rattle.play_tasks.proofs.Ways.{Way, adds, texts, drops, unsets, no_key, stays, edited-way}
@@ -51,7 +51,7 @@ use Rattle.run_histories.proofs.Setting.{set-told, unset-edits}
 use Rattle.run_histories.proofs.Edits.{SetsChunk, Edits, GoesOn, drew-goes, edit-at, edit-base, edit-goes}
 
 -- ---- the edits of a script
-added-edits : (fault : Result View MetaFault → Option MetaFault) → TellsFaults fault → (path text : List ℕ) (s t : SessionState) → is_path path ≡ true → (r : Result (Id8 × SessionState) Refusal) → added fault s path text ≡ r → session_of r ≡ Ok t → Edits s t
+added-edits : (fault : Result MetaView MetaFault → Option MetaFault) → TellsFaults fault → (path text : List ℕ) (s t : SessionState) → is_path path ≡ true → (r : Result (Id8 × SessionState) Refusal) → added fault s path text ≡ r → session_of r ≡ Ok t → Edits s t
 added-edits fault tells path text s t is_a (Err why) e d = absurd cc
 added-edits fault tells path text s t is_a (Ok new) e d =
     let same : new.1 ≡ t = cc in
@@ -65,7 +65,7 @@ drop-edits : (path : List ℕ) (s t : SessionState) → node_dropped s path ≡ 
 drop-edits path s t e = let a = node-dropped s t path e in inr (inr (inl (record { path = path; allowed = a.allowed; is = a.is })))
 
 -- a line leaves its session as it is, or edits it
-abbrev pub Leads : Deed → SessionState → Type 0
+abbrev pub Leads : LineDeed → SessionState → Type 0
 Leads (Goes r) s = (shown : List Shown) (t : SessionState) → r ≡ Ok (shown, t) → (t ≡ s) ⊎ Edits s t
 Leads _ s = Unit {0}
 
@@ -178,7 +178,7 @@ module _ (ids : AnyIds) (client : ℕ) (start journal : List Event) where
       let led = sets s a.0 (set-told s a.0 path c.0 c.1 client start journal a.1) in
       went-behind ids s a.0 t led (sets-went path cs a.0 t (led-goes ids s a.0 led g) a.2)
 
-  deed-went : (s t : SessionState) (shown : List Shown) (d : Deed) → Leads d s → GoesOn ids s → DidPlay client d s start shown t journal → WentOn ids s t
+  deed-went : (s t : SessionState) (shown : List Shown) (d : LineDeed) → Leads d s → GoesOn ids s → DidPlay client d s start shown t journal → WentOn ids s t
   deed-went s t shown (Goes r) leads g p = led-went s t (leads shown t p) g
   deed-went s t shown (Sets path index bytes) leads g p = led-went s t (sets s t (set-told s t path index bytes client start journal p.1)) g
   deed-went s t shown (Reads path index show) leads g p = went-nowhere ids s t p.0 g

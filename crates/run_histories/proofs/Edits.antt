@@ -203,11 +203,11 @@ module _ (ids : AnyIds) (spends : SpendsNodes ids) (s : SessionState) (later : I
     normal = normal;
   }
 
-  set-added : (index : List ℕ) (place : Place) (there : Option Node) → (held.with_chunk s.held index place there).added ≡ s.held.added
+  set-added : (index : List ℕ) (place : Place) (there : Option Node) → (held.placed_chunk s.held index place there).added ≡ s.held.added
   set-added index place None = refl
   set-added index place (Some n) = refl
 
-  set-dropped : (index : List ℕ) (place : Place) (there : Option Node) → (held.with_chunk s.held index place there).dropped ≡ s.held.dropped
+  set-dropped : (index : List ℕ) (place : Place) (there : Option Node) → (held.placed_chunk s.held index place there).dropped ≡ s.held.dropped
   set-dropped index place None = refl
   set-dropped index place (Some n) = refl
 
@@ -221,12 +221,12 @@ module _ (ids : AnyIds) (spends : SpendsNodes ids) (s : SessionState) (later : I
       (λ puts well. subst (λ (c : Changes). IsNormal c (base_tree puts s)) (sym (set-law sized s.held (base_tree puts s) a.path a.index bytes.0 a.place bytes.1))
       (normal-law (changes_sized s) (base_tree puts s) (tree.Set a.path a.index bytes.0) well (k.normal puts well) tt tt tt allowed)))
 
-  unset-added : (index : List ℕ) (added there : Option Node) → (held.without_chunk s.held index added there).added ≡ s.held.added
+  unset-added : (index : List ℕ) (added there : Option Node) → (held.unplaced_chunk s.held index added there).added ≡ s.held.added
   unset-added index added None = refl
   unset-added index None (Some n) = refl
   unset-added index (Some m) (Some n) = refl
 
-  unset-dropped : (index : List ℕ) (added there : Option Node) → (held.without_chunk s.held index added there).dropped ≡ s.held.dropped
+  unset-dropped : (index : List ℕ) (added there : Option Node) → (held.unplaced_chunk s.held index added there).dropped ≡ s.held.dropped
   unset-dropped index added None = refl
   unset-dropped index None (Some n) = refl
   unset-dropped index (Some m) (Some n) = refl
@@ -266,11 +266,11 @@ edit-base s t (inr (inr (inr (inr (inl a))))) = ap (λ (x : SessionState). x.row
 edit-base s t (inr (inr (inr (inr (inr a))))) = ap (λ (x : SessionState). x.rows) a.is
 
 -- an edit leaves one text for each node
-set-metas : (h : Held Place) (index : List ℕ) (place : Place) (there : Option Node) → (held.with_chunk h index place there).metas ≡ h.metas
+set-metas : (h : Held Place) (index : List ℕ) (place : Place) (there : Option Node) → (held.placed_chunk h index place there).metas ≡ h.metas
 set-metas h index place None = refl
 set-metas h index place (Some n) = refl
 
-unset-metas : (h : Held Place) (index : List ℕ) (added there : Option Node) → (held.without_chunk h index added there).metas ≡ h.metas
+unset-metas : (h : Held Place) (index : List ℕ) (added there : Option Node) → (held.unplaced_chunk h index added there).metas ≡ h.metas
 unset-metas h index added None = refl
 unset-metas h index None (Some n) = refl
 unset-metas h index (Some m) (Some n) = refl

@@ -22,12 +22,10 @@ use Rattle.histories.proofs.Linked.{history-law}
 use Rattle.histories.proofs.TagTrees.{keeps-its-tree}
 use Rattle.histories.proofs.Tagging.{tags-law}
 use Rattle.play_script.specs.Collections.{has_collection}
-use Rattle.script_calls.specs.declared.calls.Head.{Head}
-use Rattle.script_calls.specs.declared.calls.Head.TheVariants.{Session}
 use Rattle.play_script.specs.declared.scripts.Task.{Task}
 use Rattle.repository.specs.Beginning.{begin_program}
 use Rattle.repository.specs.Refs.{refs_program}
-use Rattle.play_tasks.specs.Bases.{ComesOpen}
+use Rattle.play_tasks.specs.Bases.{IsOpenAt}
 use Rattle.play_tasks.specs.Tasks.{ids_at, IsOfClient}
 use Rattle.run_histories.specs.Runs.{AllCaused, AllTrees, IsRun, IsSound, RanAlone}
 use Rattle.run_histories.specs.Sources.{DrawsOthers, IsLeftUnput, IsNewRun, IsNewSource, IsOfAnother, IsUnputRun, ObjectsAreUnput, PutsUnput}
@@ -119,11 +117,10 @@ module _ (draw : Draw) (tasks : List Task) where
 
 -- where an event of a client comes
 comes-open : (draw : Draw) (tasks : List Task) (start journal : List Event) (event : Event) → IsOfClient draw tasks start journal event → ComesWhereOpen draw tasks start journal event
-comes-open draw tasks start journal event c place task access at head_is client =
+comes-open draw tasks start journal event c place task at client =
     let same = client-task draw tasks start journal event c place task at client in
-    let head : c.task.head ≡ Session access = ap (λ (t : Task). t.head) same.1 ∙ head_is in
-    subst (λ (k : ℕ). ComesOpen (Session access) (ids_at draw k) (k + 1) start journal event.op) same.0
-    (subst (λ (h : Head). ComesOpen h (ids_at draw c.place) (c.place + 1) start journal event.op) head c.careful.open_at)
+    subst (λ (k : ℕ). IsOpenAt (ids_at draw k) task (k + 1) start journal event.op) same.0
+    (subst (λ (t : Task). IsOpenAt (ids_at draw c.place) t (c.place + 1) start journal event.op) same.1 c.careful.open_at)
 
 module _ (initial : InitialLaw) (draw : Draw) (tasks : List Task) (before : ℕ → Changes) (old new : List Event) (s : IsSound old before) (new_run : IsNewRun draw tasks old) (r : IsRun draw tasks old new) where
   abbrev added : List Event

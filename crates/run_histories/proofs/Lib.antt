@@ -15,7 +15,7 @@ pub mod Gotten
 pub mod Grounds
 pub mod Began
 pub mod Linked
-pub mod Moved
+pub mod CarriedAlong
 pub mod Walked
 pub mod Single
 pub mod Removals

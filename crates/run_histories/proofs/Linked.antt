@@ -24,7 +24,7 @@ use Rattle.conflicts.specs.declared.solving.Policy.{Policy}
 use Rattle.store_api.specs.Journal.{WasPut, puts_of, rows_of, tree_of}
 use Rattle.object_store.specs.declared.events.Event.{Event}
 use Rattle.object_store.specs.declared.keys.Key.TheVariants.{Snapshot}
-use Rattle.session.specs.Sessions.{SessionState, base_nodes, base_tree, moved_to}
+use Rattle.session.specs.Sessions.{SessionState, base_nodes, base_tree, rebased_to}
 use Rattle.session.specs.Sources.{MayDrawNode}
 use Rattle.commit_path.specs.Single.{HasPutAlike}
 use Rattle.commit_path.proofs.Knowing.{tree-by_rows}
@@ -187,7 +187,7 @@ module _ (initial : InitialLaw) (ids : AnyIds) (client : ℕ) (start journal : L
         (λ i. past l.file.id (none_left i) (hidden i) (along policy (solved_at policy s.held (base_nodes s) l) (nodes_in l.file.nodes) []))
 
     -- and behind it the session is as before
-    pub step-carried : (version : ℕ) → first_hidden (nodes_in l.file.nodes) s.held.metas ≡ None → IsCarried ids journal (moved_to s l.file.id version l.file (solved_at policy s.held (base_nodes s) l))
+    pub step-carried : (version : ℕ) → first_hidden (nodes_in l.file.nodes) s.held.metas ≡ None → IsCarried ids journal (rebased_to s l.file.id version l.file (solved_at policy s.held (base_nodes s) l))
     unfolding along
     step-carried version hidden = record {
       later = k.later;

@@ -19,7 +19,7 @@ use Rattle.play_tasks.specs.Playing.{asked_by, policy_of}
 use Rattle.play_tasks.specs.Tasks.{ids_at}
 use Rattle.run_histories.specs.Runs.{IsRun, IsSound, RanAlone}
 use Rattle.run_histories.specs.Sources.{IsNewRun}
-use Rattle.run_histories.specs.Told.{AllKeepFrozen, AllNormal, NoneHidden, WasPlayed}
+use Rattle.run_histories.specs.Told.{AllKeepFrozen, AllNormal, NoneHidden, WasPlayedOn}
 use Rattle.run_histories.proofs.Along.{well-at}
 use Rattle.run_histories.proofs.Began.{lines-carried, lost-carried}
 use Rattle.run_histories.proofs.Carrying.{IsFront, alike-back, lost-same, opened-goes}
@@ -38,7 +38,7 @@ module _ (initial : InitialLaw) (draw : Draw) (tasks : List Task) (before : ℕ 
   at_last : Hold new
   at_last = run-holds initial draw tasks before old new sound_old new_run r
 
-  module _ (start : List Event) (opening : RanAlone begin_program old start) (place : ℕ) (task : Task) (t : SessionState) (at : slice_get tasks place ≡ Some task) (w : WasPlayed (ids_at draw place) task (place + 1) start t new) where
+  module _ (start : List Event) (opening : RanAlone begin_program old start) (place : ℕ) (task : Task) (t : SessionState) (at : slice_get tasks place ≡ Some task) (w : WasPlayedOn (ids_at draw place) task (place + 1) start t new) where
     abbrev ids : AnyIds
     ids = ids_at draw place
 

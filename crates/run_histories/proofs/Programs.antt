@@ -21,7 +21,7 @@ use Rattle.store_api.specs.Program.{Prog, Done, Ask, bind, Path}
 use Rattle.play_outcome.specs.declared.outcome.RefLine.{RefLine}
 use Rattle.store_api.specs.Running.{Program, ◌>>=◌, on_answer}
 use Rattle.commit_path.specs.Single.{IsOfSnapshot}
-use Rattle.refs_admin.specs.Beginning.{init_program, put_main, placed}
+use Rattle.refs_admin.specs.NewRepository.{init_program, put_main, placed}
 use Rattle.repository.specs.Beginning.{begin_program, begun}
 use Rattle.repository.specs.Refs.{list_part, on_listed, read_ref, on_got, read_each, read_tags, read_branches, refs_program, with_line, live}
 

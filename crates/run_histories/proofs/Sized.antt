@@ -8,7 +8,7 @@ use Rattle.zarr_path.specs.Paths.{parent_of}
 use Rattle.zarr_tree.specs.Nodes.{Node, SameFrozen, is_array}
 use Rattle.zarr_tree.specs.Trees.{Tree, node_at, HasGroup, HasArray}
 use Rattle.zarr_tree.specs.Changes.{Changes, patched, own_chunk, chunk_of, apply, StillHas, EntryFits, IsNormal}
-use Rattle.zarr_tree.specs.Held.{Held, Entry, entry_in, changes_of}
+use Rattle.zarr_tree.specs.Held.{Held, HeldEntry, entry_in, changes_of}
 use Rattle.zarr_tree.proofs.NodeLaws.{frozen-refl}
 use Rattle.zarr_tree.proofs.Apply.{Own, node_cases}
 use Rattle.zarr_changes.specs.Sets.{length_of}
@@ -33,7 +33,7 @@ abbrev pub changes_sized : SessionState → Changes
 changes_sized s = changes_of sized s.held
 
 -- ---- places that have as many bytes by one look as by another
-abbrev pub AreAlike : {P : Type 0} → (f g : P → Option (List ℕ)) → List (Entry P) → Type 0
+abbrev pub AreAlike : {P : Type 0} → (f g : P → Option (List ℕ)) → List (HeldEntry P) → Type 0
 AreAlike {P} f g entries = (node : Id8) (i : List ℕ) (place : P) → entry_in entries node i ≡ Some (Some place) → (a b : List ℕ) × (f place ≡ Some a) × (g place ≡ Some b) × (length a ≡ length b)
 
 some-same : {A : Type 0} (a b : A) → Some a ≡ Some b → a ≡ b

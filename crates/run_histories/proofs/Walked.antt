@@ -15,10 +15,10 @@ use Rattle.object_store.specs.declared.events.Version.{Version}
 use Rattle.object_store.specs.declared.keys.Key.{Key}
 use Rattle.object_store.specs.declared.keys.Key.TheVariants.{Snapshot, Txn}
 use Rattle.store_api.proofs.Happening.{WasGot-append}
-use Rattle.session.specs.Sessions.{SessionState, base_nodes, moved_to}
+use Rattle.session.specs.Sessions.{SessionState, base_nodes, rebased_to}
 use Rattle.commit_path.specs.Single.{HasPutAlike}
 use Rattle.rebase.specs.Along.{Link, Solves, along}
-use Rattle.rebase.specs.Telling.{HasMoved, LogWasReadAs, Rises, WasHidden, WereMet}
+use Rattle.rebase.specs.Telling.{CameToHead, LogWasReadAs, Rises, WasHidden, WereMet}
 use Rattle.rebase.proofs.AsPut.{log-logged, snapshot-made}
 use Rattle.play_script.specs.Well.{IsWellTask}
 use Rattle.play_script.specs.declared.scripts.Task.{Task}
@@ -29,7 +29,7 @@ use Rattle.run_histories.proofs.Began.{lines-carried, lost-carried}
 use Rattle.run_histories.proofs.Carrying.{IsFront, alike-back, front-front, lost-same, rebased-front, rebased-same, task-lines}
 use Rattle.run_histories.proofs.Gotten.{read-parent}
 use Rattle.run_histories.proofs.Grounds.{Grounds, IsCarried, IsLink}
-use Rattle.run_histories.proofs.Moved.{AllLinked, walk-carried, walk-honest}
+use Rattle.run_histories.proofs.CarriedAlong.{AllLinked, walk-carried, walk-honest}
 
 some-same : {A : Type 0} (a b : A) → Some a ≡ Some b → a ≡ b
 some-same a b e = cc
@@ -103,14 +103,14 @@ module _ (initial : InitialLaw) (ids : AnyIds) (client : ℕ) (start journal : L
       → AllLinked initial ids client start journal g s.base links
   met-linked s head version links later then now front m = all-linked then now front later links s.base head m.walked.rises m.walked.read m.logs
 
-  pub moved-carried : (policy : Policy) (s t : SessionState) (count : ℕ) (then now : List Event) → IsFront now journal → IsCarried ids journal s → HasPutAlike client s start journal → HasMoved client policy s t count then now → IsCarried ids journal t
+  pub moved-carried : (policy : Policy) (s t : SessionState) (count : ℕ) (then now : List Event) → IsFront now journal → IsCarried ids journal s → HasPutAlike client s start journal → CameToHead client policy s t count then now → IsCarried ids journal t
   moved-carried policy s t count then now front k alike m =
       let last : Link = record { file = m.snap; lists = m.solved.lists } in
       let met : WereMet client s m.head m.version (m.solved.before ++ last ∷ []) [] then now = subst (λ (ls : List Link). WereMet client s m.head m.version ls [] then now) m.solved.last m.solved.met in
       let way : along policy s.held (base_nodes s) (m.solved.before ++ last ∷ []) ≡ Solves m.held = ap (along policy s.held (base_nodes s)) (sym m.solved.last) ∙ m.solved.solved in
       let linked = met-linked s m.head m.version (m.solved.before ++ last ∷ []) [] then now front met in
       let here = walk-carried initial ids client start journal g policy m.solved.before last s m.held m.version.0 k alike linked way in
-      subst (IsCarried ids journal) (sym m.becomes) (subst (λ (id : Id12). IsCarried ids journal (moved_to s id m.version.0 m.snap m.held)) (rises-last m.solved.before last s.base m.head met.walked.rises) here)
+      subst (IsCarried ids journal) (sym m.becomes) (subst (λ (id : Id12). IsCarried ids journal (rebased_to s id m.version.0 m.snap m.held)) (rises-last m.solved.before last s.base m.head met.walked.rises) here)
 
   pub rebased-carried : (policy : Policy) (s t : SessionState) (then now : List Event) → IsFront now journal → IsCarried ids journal s → HasPutAlike client s start journal → WasRebased client policy s t then now → IsCarried ids journal t
   rebased-carried policy s t then now front k alike (inl (count, m)) = moved-carried policy s t count then now front k alike m

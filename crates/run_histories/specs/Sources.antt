@@ -34,7 +34,9 @@ ObjectsAreNew ids journal = (id : Id12) → MayDrawObject ids id → IsUnusedId 
 
 -- no node of a tree of the journal has an id that the source may draw
 abbrev pub NodesAreNew : AnyIds → List Event → Type 0
-NodesAreNew ids journal = (id : Id12) (t : Tree) (p : List ℕ) (n : Node) → tree_of journal id ≡ Some t → node_at t p ≡ Some n → ¬ MayDrawNode ids n.id
+NodesAreNew ids journal =
+    (id : Id12) (t : Tree) (p : List ℕ) (n : Node) → tree_of journal id ≡ Some t
+    → node_at t p ≡ Some n → ¬ MayDrawNode ids n.id
 
 -- What a source may draw is new to the journal.
 pub record IsNewSource (ids : AnyIds) (journal : List Event) : Type 0 where
@@ -56,19 +58,28 @@ ObjectsAreUnput ids journal = (id : Id12) → MayDrawObject ids id → IsUnputId
 
 -- so it is of the sources of a run's clients
 abbrev pub IsUnputRun : Draw → List Task → List Event → Type 0
-IsUnputRun draw tasks journal = (place : ℕ) → place < length tasks → ObjectsAreUnput (ids_at draw place) journal
+IsUnputRun draw tasks journal =
+    (place : ℕ) → place < length tasks → ObjectsAreUnput (ids_at draw place) journal
 
--- where the event puts an object new, done or not, but for the initial snapshot, nothing was ever put under its key
+-- where the event puts an object new, done or not, but for the initial snapshot,
+-- nothing was ever put under its key
 abbrev pub PutsUnput : List Event → Event → Type 0
-PutsUnput journal event = (key : Key) (bytes : List ℕ) (why : Why) (id : Id12) → event.op ≡ PutNew key bytes why → id_of key ≡ Some id → id ≢ initial_id → first_put journal key ≡ None
+PutsUnput journal event =
+    (key : Key) (bytes : List ℕ) (why : Why) (id : Id12) → event.op ≡ PutNew key bytes why
+    → id_of key ≡ Some id → id ≢ initial_id → first_put journal key ≡ None
 
--- What a run's client may draw and didn't put itself since `start` was never put: so it is of what is left of its source.
+-- What a run's client may draw and didn't put itself since `start` was never put: so it is
+-- of what is left of its source.
 abbrev pub IsLeftUnput : Draw → List Task → (start journal : List Event) → Type 0
-IsLeftUnput draw tasks start journal = (place : ℕ) → place < length tasks → (id : Id12) → MayDrawObject (ids_at draw place) id → (key : Key) → id_of key ≡ Some id → HasNotPut key (place + 1) start journal → first_put journal key ≡ None
+IsLeftUnput draw tasks start journal =
+    (place : ℕ) → place < length tasks → (id : Id12) → MayDrawObject (ids_at draw place) id
+    → (key : Key) → id_of key ≡ Some id → HasNotPut key (place + 1) start journal
+    → first_put journal key ≡ None
 
 -- ---- runs and other sources
--- The clients of a run draw no id twice, and their sources are new to the journal that the run goes on; where a task of it collects, so that what was
--- put need not stand, nothing was ever put under what they may draw.
+-- The clients of a run draw no id twice, and their sources are new to the journal that the
+-- run goes on; where a task of it collects, so that what was put need not stand, nothing was
+-- ever put under what they may draw.
 pub record IsNewRun (draw : Draw) (tasks : List Task) (journal : List Event) : Type 0 where
   pub once : DrawsOnce draw (length tasks)
   pub sources : (place : ℕ) → place < length tasks → IsNewSource (ids_at draw place) journal
@@ -76,9 +87,12 @@ pub record IsNewRun (draw : Draw) (tasks : List Task) (journal : List Event) : T
 
 -- a source that draws no node id which one of a run's may draw
 abbrev pub IsOfAnother : Draw → List Task → AnyIds → Type 0
-IsOfAnother draw tasks ids = (place : ℕ) → place < length tasks → (id : Id8) → MayDrawNode (ids_at draw place) id → ¬ MayDrawNode ids id
+IsOfAnother draw tasks ids =
+    (place : ℕ) → place < length tasks → (id : Id8) → MayDrawNode (ids_at draw place) id
+    → ¬ MayDrawNode ids id
 
 -- a source that draws no object id which one of a run's may draw, nor the initial snapshot's
 pub record DrawsOthers (draw : Draw) (tasks : List Task) (ids : AnyIds) : Type 0 where
-  pub others : (place : ℕ) → place < length tasks → (id : Id12) → MayDrawObject (ids_at draw place) id → ¬ MayDrawObject ids id
+  pub others : (place : ℕ) → place < length tasks → (id : Id12)
+      → MayDrawObject (ids_at draw place) id → ¬ MayDrawObject ids id
   pub initial : ¬ MayDrawObject ids initial_id

@@ -20,7 +20,9 @@ ref_text r = kind_text r.tag ++ (r.name ++ (codes " " ++ (id12_text r.id ++ put_
 
 -- how many snapshots, logs, manifests and objects with chunks were put
 abbrev pub counts_text : Mirrored → List ℕ
-counts_text m = codes "mirrored " ++ (decimal m.snapshots ++ (codes " " ++ (decimal m.logs ++ (codes " " ++ (decimal m.manifests ++ (codes " " ++ (decimal m.chunks ++ codes "\n")))))))
+counts_text m =
+    codes "mirrored " ++ (decimal m.snapshots ++ (codes " " ++ (decimal m.logs ++ (codes " "
+    ++ (decimal m.manifests ++ (codes " " ++ (decimal m.chunks ++ codes "\n")))))))
 
 abbrev pub refused_text : Refusal → List ℕ
 refused_text why = codes "mirror refused " ++ (refusal_text why ++ codes "\n")

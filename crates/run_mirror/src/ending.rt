@@ -1,7 +1,7 @@
 //! How a call of a mirror ends.
 
 ghost use Rattle.std.specs.Prelude.{◌≡◌};
-ghost use Rattle.run_mirror.specs.Ending.{number_of, refused_as, status_of};
+ghost use Rattle.run_mirror.specs.Ending.{mirror_number, refused_as, status_of};
 
 use mirror_reports::Mirrored;
 use store_api::Refusal;
@@ -35,7 +35,7 @@ pub struct MirrorEnded<S, T> {
 impl MirrorStatus {
     /// The number that the process ends with.
     pub fn number(&self) -> u8
-        ensures { result ≡ number_of self.now }
+        ensures { result ≡ mirror_number self.now }
     {
         match self {
             MirrorStatus::Done => 0,

@@ -21,8 +21,8 @@ use Rattle.play_tasks.specs.Playing.{asked_by}
 use Rattle.play_tasks.specs.Solving.{PlaysAll}
 use Rattle.play_tasks.specs.Tasks.{ids_at}
 use Rattle.play_tasks.proofs.Going.{plays-last}
-use Rattle.run_histories.specs.Told.{WasPlayed, HasHistories}
-use Rattle.run_promise.specs.Lines.{Plays}
+use Rattle.run_histories.specs.Told.{WasPlayedOn, HasHistories}
+use Rattle.run_promise.specs.Lines.{DoesAll}
 use Rattle.run_promise.proofs.Lines.{AreNormal, line-does, line-goes}
 
 module _ (draw : Draw) (tasks : List Task) (before : ℕ → Changes) (old start new : List Event) (h : HasHistories draw tasks before old start new) (place : ℕ) (task : Task) (at : slice_get tasks place ≡ Some task) where
@@ -30,7 +30,7 @@ module _ (draw : Draw) (tasks : List Task) (before : ℕ → Changes) (old start
   put = puts_of new
 
   abbrev Played : SessionState → Type 0
-  Played s = WasPlayed (ids_at draw place) task (place + 1) start s new
+  Played s = WasPlayedOn (ids_at draw place) task (place + 1) start s new
 
   some-same : {A : Type 0} (a b : A) → Some a ≡ Some b → a ≡ b
   some-same a b e = cc
@@ -54,13 +54,13 @@ module _ (draw : Draw) (tasks : List Task) (before : ℕ → Changes) (old start
 
     -- lines were played from here on, and this is behind them
     pub record PlayedOn (ls : List Line) (s t : SessionState) (shown : List Shown) : Type 0 where
-      pub plays : Plays ls (overlay put s) shown (overlay put t)
+      pub plays : DoesAll ls (overlay put s) shown (overlay put t)
       pub knows : IsOpened t new
       pub rows : t.rows ≡ s.rows
       pub based : t.base ≡ s.base
 
     pub plays-on : (ls rest front : List Line) (s t : SessionState) (shown more : List Shown) → task.body ≡ front ++ (ls ++ rest) → PlaysAll (place + 1) front opened start shown s new → IsOpened s new → PlaysAll (place + 1) ls s start more t new → PlayedOn ls s t more
-    unfolding PlaysAll Plays
+    unfolding PlaysAll DoesAll
     plays-on [] rest front s t shown more body so o p = record {
       plays = (p.0, ap (overlay put) p.1);
       knows = subst (λ (x : SessionState). IsOpened x new) (sym p.1) o;

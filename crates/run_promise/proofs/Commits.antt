@@ -50,13 +50,13 @@ use Rattle.play_tasks.specs.Lines as line
 use Rattle.play_tasks.specs.Playing.{asked_by, policy_of, placed_shown}
 use Rattle.play_tasks.specs.Solving.{PlaysAll}
 use Rattle.play_tasks.specs.Tasks.{ids_at}
-use Rattle.play_tasks.specs.Telling.{Refuses, IsQuiet, HasCommitted, WasInDoubt, WasCommitRefused, WasLostAtLast, WasNotRebased, EndsAt, WasOpened}
+use Rattle.play_tasks.specs.Telling.{Refuses, IsSilent, EndsCommitted, WasInDoubt, WasCommitRefused, WasLostAtLast, WasNotRebased, EndsAt, WasOpened}
 use Rattle.play_tasks.proofs.Early.{WasBegun-more}
 use Rattle.play_tasks.proofs.Going.{PlaysAll-append, plays-none}
 use Rattle.run_histories.specs.Told as told
 use Rattle.run_histories.specs.Told.{HasHistories, CommitsEnter}
 use Rattle.run_histories.proofs.Sized.{changes-stay}
-use Rattle.run_promise.specs.Lines.{Plays}
+use Rattle.run_promise.specs.Lines.{DoesAll}
 use Rattle.run_promise.specs.Ways.{Carried}
 use Rattle.run_promise.specs.Promise.{at_of, Began, FoundBranch, FoundTag, IsSession, EndsShowing, EndsBy, EndsWith, ShowsRight, TakesEffect, IsCommit}
 use Rattle.run_promise.proofs.Bodies.{PlayedOn, plays-on}
@@ -148,7 +148,7 @@ module _ (initial : InitialLaw) (means : (bytes_at : Place → Option (List ℕ)
               (subst (λ (a : At). Began (files_by trees) h.changes (place + 1) a opened.base start new) (asked-at access (ids_at draw place)) (began-at trees h.changes (place + 1) (asked_by access (ids_at draw place)).at (asked_by access (ids_at draw place)).writes opened start new began.began));
           tree = base_tree put s;
           has = ap trees on.based ∙ began.tree ∙ ap (λ (t : Tree). Some t) (sym tree);
-          plays = subst (λ (t : Tree). Plays played t shown (overlay put s)) (opened-tree ∙ sym tree) on.plays;
+          plays = subst (λ (t : Tree). DoesAll played t shown (overlay put s)) (opened-tree ∙ sym tree) on.plays;
         }
 
     pub session-opened : (played left : List Line) (shown : List Shown) (s : SessionState) → task.body ≡ played ++ left → PlaysAll (place + 1) played opened start shown s new → IsOpened s new
@@ -217,21 +217,21 @@ committed initial means draw tasks before old start new since rest event h is br
 
 -- ---- what tasks showed
 -- what is shown by the line at which a session ended
-key-set-quiet : (bytes : List ℕ) (o : Option ZarrKey) (s : SessionState) (last : List Shown) → IsQuiet (line.key_set_deed bytes o s) last → last ≡ []
+key-set-quiet : (bytes : List ℕ) (o : Option ZarrKey) (s : SessionState) (last : List Shown) → IsSilent (line.key_set_deed bytes o s) last → last ≡ []
 key-set-quiet bytes None s last q = q
 key-set-quiet bytes (Some (K.Meta path)) s last q = q
 key-set-quiet bytes (Some (K.Chunk path index)) s last q = q
 
-edit-quiet : (edit : EditCall) (s : SessionState) (last : List Shown) → IsQuiet (line.edit_deed edit s) last → last ≡ []
+edit-quiet : (edit : EditCall) (s : SessionState) (last : List Shown) → IsSilent (line.edit_deed edit s) last → last ≡ []
 edit-quiet (E.KeySet key bytes) s last q = key-set-quiet bytes (key_of key) s last q
 edit-quiet edit s last q = q
 
-key-get-quiet : (number : ℕ) (o : Option ZarrKey) (s : SessionState) (last : List Shown) → IsQuiet (line.key_get_deed number o s) last → last ≡ []
+key-get-quiet : (number : ℕ) (o : Option ZarrKey) (s : SessionState) (last : List Shown) → IsSilent (line.key_get_deed number o s) last → last ≡ []
 key-get-quiet number None s last q = q
 key-get-quiet number (Some (K.Meta path)) s last q = q
 key-get-quiet number (Some (K.Chunk path index)) s last q = q
 
-read-quiet : (number : ℕ) (look : ReadCall) (s : SessionState) (last : List Shown) → IsQuiet (line.read_deed number look s) last → last ≡ []
+read-quiet : (number : ℕ) (look : ReadCall) (s : SessionState) (last : List Shown) → IsSilent (line.read_deed number look s) last → last ≡ []
 read-quiet number (L.List path) s last q = q
 read-quiet number (L.Get path) s last q = q
 read-quiet number (L.Chunk path index) s last q = q
@@ -242,7 +242,7 @@ placed-showing : (l : Line) (ls : List Line) → l.call ≡ C.Lease → (placed 
 placed-showing l ls leases None last is = inl is
 placed-showing l ls leases (Some id) last is = inr (record { line = l; behind = ls; left_is = refl; leases = leases; id = id; why = None; shows = is })
 
-refused-showing : (client : ℕ) (l : Line) (ls : List Line) (call : Call) (s : SessionState) (start : List Event) (last : List Shown) (why : Refusal) (ended : List Event) → l.call ≡ call → Refuses client (line.deed l.number call s) s start last why ended → IsQuiet (line.deed l.number call s) last → EndsShowing (l ∷ ls) last
+refused-showing : (client : ℕ) (l : Line) (ls : List Line) (call : Call) (s : SessionState) (start : List Event) (last : List Shown) (why : Refusal) (ended : List Event) → l.call ≡ call → Refuses client (line.deed l.number call s) s start last why ended → IsSilent (line.deed l.number call s) last → EndsShowing (l ∷ ls) last
 refused-showing client l ls (C.Edit edit) s start last why ended is t q = inl (edit-quiet edit s last q)
 refused-showing client l ls (C.Read look) s start last why ended is t q = inl (read-quiet l.number look s last q)
 refused-showing client l ls (C.Commit message) s start last why ended is t q = inl q
@@ -267,7 +267,7 @@ by-commit : (l : Line) (s : SessionState) (message : List ℕ) → line.deed l.n
 by-commit l s message e = (message, call-commits l.number l.call s message e)
 
 tried-ends : (client : ℕ) (access : Access) (l : Line) (s at_last : SessionState) (message : List ℕ) (count : ℕ) (start : List Event) (end : End) (ended : List Event) → line.deed l.number l.call s ≡ line.Commits message
-    → HasCommitted client at_last message start end ended
+    → EndsCommitted client at_last message start end ended
     ⊎ (WasInDoubt client at_last message start end ended
     ⊎ (WasCommitRefused client l.number at_last message start end ended
     ⊎ (WasLostAtLast client access l.number count at_last start end ended ⊎ WasNotRebased client access l.number count at_last start end ended)))

@@ -4,8 +4,7 @@ use Rattle.std.proofs.lemmas.List.{append_cancel_left}
 use Rattle.std.specs.Prelude.{Option, Some}
 use Rattle.ice_ids.specs.declared.Id12.{Id12}
 use Rattle.object_store.specs.declared.keys.Key.{Key}
-use Rattle.object_store.specs.declared.keys.Key.TheVariants.{Snapshot, Manifest, Txn, Chunk, Branch, Tag, Tombstone, Lease}
-use Rattle.object_store.specs.declared.keys.Why.{Why}
+use Rattle.object_store.specs.declared.keys.Key.TheVariants.{Snapshot, Manifest, Chunk, Branch}
 use Rattle.object_store.specs.declared.keys.Why.TheVariants.{Commit, Set}
 use Rattle.object_store.specs.declared.events.Op.{Op}
 use Rattle.object_store.specs.declared.events.Op.TheVariants.{Get, PutNew, PutOver, Remove, RemoveAt, List as ListPart}
@@ -33,11 +32,11 @@ use Rattle.play_outcome.specs.declared.outcome.Shown.{Shown}
 use Rattle.play_outcome.specs.declared.outcome.End.{End}
 use Rattle.play_outcome.specs.declared.outcome.End.TheVariants.{Refused}
 use Rattle.play_outcome.specs.declared.outcome.End.TheVariants as E
-use Rattle.play_tasks.specs.Lines.{Deed, Goes, Sets, Reads, Puts, Gathers, Leases, Commits, deed}
-use Rattle.play_tasks.specs.Played.{IsGetOrRelease, IsLeaseGone}
+use Rattle.play_tasks.specs.Lines.{LineDeed, Goes, Sets, Reads, Puts, Gathers, Leases, Commits, deed}
+use Rattle.play_tasks.specs.Played.{IsGetOrRelease}
 use Rattle.play_tasks.specs.Telling as told
 use Rattle.play_course.proofs.Released.{released-made}
-use Rattle.run_promise.specs.Promise.{TakesEffect, HasCommitted, EndsRight}
+use Rattle.run_promise.specs.Promise.{TakesEffect, HasCommitOf, EndsRight}
 
 some-id : (a b : Id12) → Some a ≡ Some b → a ≡ b
 some-id a b e = cc
@@ -74,7 +73,7 @@ effect-changes files client journal event branch old id own e leaves =
     let version : length journal ≡ e.stored.version = sym after.2 ∙ ap (λ (s : Stored). s.version) same in
     omega (arith, less, version)
 
-pub none-committed : (files : Files) (client : ℕ) (start journal : List Event) → ChangedNothing client start journal → (id : Id12) → ¬ HasCommitted files client id start journal
+pub none-committed : (files : Files) (client : ℕ) (start journal : List Event) → ChangedNothing client start journal → (id : Id12) → ¬ HasCommitOf files client id start journal
 none-committed files client start journal c id h =
     let whole : start ++ c.more ≡ start ++ (h.since ++ h.event ∷ h.after) =
     sym c.is ∙ h.is ∙ ap (λ (x : List Event). x ++ h.event ∷ h.after) h.before_is ∙ append_assoc start h.since (h.event ∷ h.after) in
@@ -84,7 +83,7 @@ none-committed files client start journal c id h =
     effect-changes files client h.before h.event h.branch h.old id h.own h.takes_effect (subst (λ (x : List Event). LeavesBranches client x h.event) (sym h.before_is) at)
 
 -- ---- a commit that was told
-took-committed : (trees : Id12 → Option Tree) (client : ℕ) (s : SessionState) (message : List ℕ) (made : _) (start journal : List Event) → TookEffect client s message made start journal → HasCommitted (files_by trees) client made.id start journal
+took-committed : (trees : Id12 → Option Tree) (client : ℕ) (s : SessionState) (message : List ℕ) (made : _) (start journal : List Event) → TookEffect client s message made start journal → HasCommitOf (files_by trees) client made.id start journal
 took-committed trees client s message made start journal t =
     let own = t.own in
     record {
@@ -148,23 +147,9 @@ gets-nothing client first second g = record {
 }
 
 -- ---- releases
-gone-apart : (key : Key) (why : Why) → IsLeaseGone key why → IsApart (Remove key why)
-gone-apart (Lease id) why g branch n time slot on = let no : false ≡ true = on in absurd cc
-gone-apart (Snapshot id) why g branch n time slot on = absurd g
-gone-apart (Manifest id) why g branch n time slot on = absurd g
-gone-apart (Txn id) why g branch n time slot on = absurd g
-gone-apart (Chunk id) why g branch n time slot on = absurd g
-gone-apart (Branch name) why g branch n time slot on = absurd g
-gone-apart (Tag name) why g branch n time slot on = absurd g
-gone-apart (Tombstone name) why g branch n time slot on = absurd g
-
 release-apart : (op : Op) → IsGetOrRelease op → IsApart op
-release-apart (Get key) g branch n time slot on = refl
-release-apart (PutNew key bytes why) g branch n time slot on = absurd g
-release-apart (PutOver key bytes old why) g branch n time slot on = absurd g
-release-apart (Remove key why) g branch n time slot on = gone-apart key why g branch n time slot on
-release-apart (RemoveAt key old why) g branch n time slot on = absurd g
-release-apart (ListPart part) g branch n time slot on = absurd g
+release-apart op (inl get) branch n time slot on = get-is-apart op get branch n time slot on
+release-apart op (inr r) branch n time slot on = let no : false ≡ true = sym (ap (is_on (Branch branch)) r.1) ∙ on in absurd cc
 
 -- leases that are released leave all branches
 pub released-nothing : (client : ℕ) (before : List Shown) (first : List Event) (after : List Shown) (journal : List Event) → told.WereReleased client before first after journal → ChangedNothing client first journal
@@ -190,7 +175,7 @@ in-parts (x ∷ xs) ys (w ∷ ws) z zs e =
 
 -- what a client committed, and how it ended, stays so
 module _ (files : Files) (client : ℕ) (start ended journal : List Event) (later : ChangedNothing client ended journal) where
-  earlier-committed : (id : Id12) → HasCommitted files client id start journal → HasCommitted files client id start ended
+  earlier-committed : (id : Id12) → HasCommitOf files client id start journal → HasCommitOf files client id start ended
   earlier-committed id c = elim (in-parts ended later.more c.before c.event c.after (sym later.is ∙ c.is)) [
     | inl h ↦ absurd (none-committed files client ended journal later id (record { before = c.before; event = c.event; after = c.after; is = c.is; since = h.0; before_is = h.1; own = c.own; branch = c.branch; old = c.old; takes_effect = c.takes_effect }))
     | inr h ↦ record { before = c.before; event = c.event; after = h.0; is = h.1; since = c.since; before_is = c.before_is; own = c.own; branch = c.branch; old = c.old; takes_effect = c.takes_effect }
@@ -232,7 +217,7 @@ two-places (a ∷ older) x ys (b ∷ bs) z ws e =
     ]
 
 -- a commit that took effect, where the client changed a branch by one event alone, is that event
-module _ (files : Files) (client : ℕ) (start before : List Event) (event : Event) (after journal : List Event) (is : journal ≡ before ++ event ∷ after) (once : ChangedOnce client start before event journal) (id : Id12) (c : HasCommitted files client id start journal) where
+module _ (files : Files) (client : ℕ) (start before : List Event) (event : Event) (after journal : List Event) (is : journal ≡ before ++ event ∷ after) (once : ChangedOnce client start before event journal) (id : Id12) (c : HasCommitOf files client id start journal) where
   is-that : c.event ≡ event
   is-that = elim (two-places before event after c.before c.event c.after (sym is ∙ c.is)) [
     | inl h ↦ sym h.1
@@ -245,7 +230,7 @@ module _ (files : Files) (client : ℕ) (start before : List Event) (event : Eve
 same-bytes : (key other : Key) (a b : List ℕ) (v w : Version) → PutOver key a v Commit ≡ PutOver other b w Commit → a ≡ b
 same-bytes key other a b v w e = cc
 
-doubt-names : (trees : Id12 → Option Tree) (client : ℕ) (s : SessionState) (message : List ℕ) (start : List Event) (end : End) (journal : List Event) → (d : told.WasInDoubt client s message start end journal) → (other : Id12) → HasCommitted (files_by trees) client other start journal → other ≡ d.id
+doubt-names : (trees : Id12 → Option Tree) (client : ℕ) (s : SessionState) (message : List ℕ) (start : List Event) (end : End) (journal : List Event) → (d : told.WasInDoubt client s message start end journal) → (other : Id12) → HasCommitOf (files_by trees) client other start journal → other ≡ d.id
 doubt-names trees client s message start end journal d other c =
     let gets = d.settled.1 in
     let own = d.doubted.own in
@@ -261,7 +246,7 @@ doubt-names trees client s message start end journal d other c =
 -- ---- refusals
 module _ (trees : Id12 → Option Tree) (client : ℕ) (start journal : List Event) where
   abbrev None_ : Type 0
-  None_ = (id : Id12) → ¬ HasCommitted (files_by trees) client id start journal
+  None_ = (id : Id12) → ¬ HasCommitOf (files_by trees) client id start journal
 
   nothing : ChangedNothing client start journal → None_
   nothing c = none-committed (files_by trees) client start journal c
@@ -299,7 +284,7 @@ module _ (trees : Id12 → Option Tree) (client : ℕ) (start journal : List Eve
   commit-none s message (R.InDoubt id) n t = absurd (n id refl)
   commit-none s message why n t = nothing t.1
 
-  refused-none : (d : Deed) (s : SessionState) (last : List Shown) (why : Refusal) → told.Refuses client d s start last why journal → None_
+  refused-none : (d : LineDeed) (s : SessionState) (last : List Shown) (why : Refusal) → told.Refuses client d s start last why journal → None_
   refused-none (Goes went) s last why t = nothing t.1
   refused-none (Sets path index bytes) s last why t = set-none s path index bytes why t
   refused-none (Reads path index show) s last why t = get-none s path index why t

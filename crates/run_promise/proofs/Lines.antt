@@ -11,7 +11,7 @@ use Rattle.zarr_path.specs.declared.keys.ZarrKey.TheVariants as K
 use Rattle.zarr_path.specs.Keys.{key_of}
 use Rattle.zarr_path.proofs.OrderLaws.{same_path-true, same_path-refl}
 use Rattle.zarr_meta.specs.declared.faults.MetaFault.{MetaFault}
-use Rattle.zarr_meta.specs.declared.views.View.{View}
+use Rattle.zarr_meta.specs.declared.views.MetaView.{MetaView}
 use Rattle.zarr_meta.specs.Plain.{group_text}
 use Rattle.zarr_tree.specs.declared.edit.EditFault.{EditFault}
 use Rattle.zarr_tree.specs.declared.edit.EditFault.TheVariants as Fault
@@ -40,7 +40,7 @@ use Rattle.session.specs.declared.chunks.Value.TheVariants.{Bytes, Fill}
 use Rattle.session.specs.Sessions.{SessionState, nodes_seen, base_tree, changes_in, overlay}
 use Rattle.session.specs.Editing.{group_fault, array_fault, node_fault, added, group_added, array_added, node_added, meta_set, node_dropped, prop_added, with_node, listing, beneath, if_there}
 use Rattle.session.specs.Editing as session
-use Rattle.session.specs.Chunks.{most_inline, with_chunk, without_chunk, after_draw, chunk_unset}
+use Rattle.session.specs.Chunks.{most_inline, with_chunk, without_chunk, after_draw, chunk_unset, filled}
 use Rattle.commit_path.proofs.Adding.{PropAdded, prop-added, prop-opened}
 use Rattle.commit_path.specs.Laws.{TellsFaults}
 use Rattle.commit_path.specs.Opened.{IsOpened}
@@ -142,15 +142,15 @@ module _ (puts : Puts) (journal : List Event) where
         subst (λ (x : SessionState). change (overlay puts s) (Add path id text) ≡ Ok (overlay puts x)) (sym is)
         (took (Add path id text) (changes_in puts (with_node s path text id)) n.well n.before (fresh path text id allowed behind) allowed refl)
 
-    texts : (path text : List ℕ) (t : SessionState) → text_refusal (nodes_seen s) path text ≡ None → t ≡ session.with_text s path text → Takes s t (SetMeta path text)
+    texts : (path text : List ℕ) (t : SessionState) → text_refusal (nodes_seen s) path text ≡ None → t ≡ session.text_changed s path text → Takes s t (SetMeta path text)
     texts path text t allowed is n =
         subst (λ (x : SessionState). change (overlay puts s) (SetMeta path text) ≡ Ok (overlay puts x)) (sym is)
-        (took (SetMeta path text) (changes_in puts (session.with_text s path text)) n.well n.before tt allowed (text-law (bytes_at puts) s.held base path text))
+        (took (SetMeta path text) (changes_in puts (session.text_changed s path text)) n.well n.before tt allowed (text-law (bytes_at puts) s.held base path text))
 
-    drops : (path : List ℕ) (t : SessionState) → drop_refusal (nodes_seen s) path ≡ None → t ≡ session.without s path → Takes s t (Drop path)
+    drops : (path : List ℕ) (t : SessionState) → drop_refusal (nodes_seen s) path ≡ None → t ≡ session.node_gone s path → Takes s t (Drop path)
     drops path t allowed is n =
         subst (λ (x : SessionState). change (overlay puts s) (Drop path) ≡ Ok (overlay puts x)) (sym is)
-        (took (Drop path) (changes_in puts (session.without s path)) n.well n.before tt allowed (drop-law (bytes_at puts) s.held base path))
+        (took (Drop path) (changes_in puts (session.node_gone s path)) n.well n.before tt allowed (drop-law (bytes_at puts) s.held base path))
 
     sets : (path index bytes : List ℕ) (place : Place) (ids : AnyIds) (t : SessionState) → set_refusal (nodes_seen s) path index (length bytes) ≡ None → bytes_at puts place ≡ Some bytes → t ≡ record (with_chunk s path index place) { ids = ids } → Takes s t (Set path index bytes)
     sets path index bytes place ids t allowed held is n =
@@ -177,7 +177,7 @@ module _ (puts : Puts) (journal : List Event) where
     some_id : Id8
     some_id = record { 0 = [] }
 
-    added-took : (edit : EditCall) (fault : Result View MetaFault → Option MetaFault) → TellsFaults fault → (path text : List ℕ) (t : SessionState) → ((id : Id8) → edit_of edit id (overlay puts s) ≡ Some (Add path id text))
+    added-took : (edit : EditCall) (fault : Result MetaView MetaFault → Option MetaFault) → TellsFaults fault → (path text : List ℕ) (t : SessionState) → ((id : Id8) → edit_of edit id (overlay puts s) ≡ Some (Add path id text))
         → (r : Result (Id8 × SessionState) Refusal) → added fault s path text ≡ r → session_of r ≡ Ok t → Took edit t
     added-took edit fault tells path text t asks (Err why) e d = absurd cc
     added-took edit fault tells path text t asks (Ok new) e d =
@@ -284,7 +284,7 @@ module _ (client : ℕ) (start journal : List Event) (good : IsGoodJournal journ
   edit-did (E.Unset path index) s t shown d = silent-did put journal s (E.Unset path index) t shown (chunk_unset s path index) (λ e. unset-took put journal s (E.Unset path index) path index t refl e) d
   edit-did (E.KeyErase key) s t shown d = silent-did put journal s (E.KeyErase key) t shown (key_erased s key) (λ e. erased-took put journal s (E.KeyErase key) t (key_of key) refl e) d
   edit-did (E.Set path index bytes) s t shown d = set-did (E.Set path index bytes) s t shown path index bytes (λ id. refl) d
-  edit-did (E.Fill path index byte) s t shown d = set-did (E.Fill path index byte) s t shown path index (line.filled s path byte) (λ id. refl) d
+  edit-did (E.Fill path index byte) s t shown d = set-did (E.Fill path index byte) s t shown path index (filled s path byte) (λ id. refl) d
   edit-did (E.Put place numbers) s t shown d = d
   edit-did (E.KeySet key bytes) s t shown d = key_set-did key bytes s t shown (key_of key) refl d
 

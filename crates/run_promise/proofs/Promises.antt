@@ -35,14 +35,14 @@ use Rattle.repository.specs.Closing.{RefsLaw}
 use Rattle.play_course.specs.Leaving.{TellsEnds}
 use Rattle.play_course.proofs.Leaving.{course-run, course-begun, course-told}
 use Rattle.run_collections.specs.Laws.{NeededLaw}
-use Rattle.run_promise.specs.Promise.{HasCommitted, ShowsRight, EndsRight, Keeps}
+use Rattle.run_promise.specs.Promise.{HasCommitOf, ShowsRight, EndsRight, Fulfils}
 use Rattle.run_promise.specs.Law.{PromiseLaw}
 use Rattle.run_promise.proofs.Commits.{committed, showed}
 use Rattle.run_promise.proofs.Ends.{later-ends, lines-end, released-nothing, unopened-end}
 use Rattle.run_promise.proofs.Released.{AreAfter, released-after}
 
 -- a commit that took effect, in words of the histories
-abbrev committed-so : (trees : Id12 → Option Tree) (client : ℕ) (id : Id12) (old new : List Event) → HasCommitted (files_by trees) client id old new → Histories.HasCommitted client old new
+abbrev committed-so : (trees : Id12 → Option Tree) (client : ℕ) (id : Id12) (old new : List Event) → HasCommitOf (files_by trees) client id old new → Histories.HasCommitted client old new
 committed-so trees client id old new c = record {
   branch = c.branch;
   bytes = c.takes_effect.bytes;
@@ -60,7 +60,7 @@ module _ (initial : InitialLaw) (means : (bytes_at : Place → Option (List ℕ)
   opening-plain : Each (λ (j : List Event) (e : Event). IsPlain e.op) old h.began.own
   opening-plain = path-plain begin_program old h.began.own h.began.left begin-plain h.began.path
 
-  uncommitted : (client : ℕ) (id : Id12) → HasCommitted (files_by (tree_of new)) client id old start → ⊥
+  uncommitted : (client : ℕ) (id : Id12) → HasCommitOf (files_by (tree_of new)) client id old start → ⊥
   uncommitted client id c =
       let Plain : List Event → Event → Type 0 = λ j e. IsPlain e.op in
       let whole : old ++ h.began.own ≡ old ++ (c.since ++ c.event ∷ c.after) =
@@ -98,7 +98,7 @@ module _ (initial : InitialLaw) (means : (bytes_at : Place → Option (List ℕ)
         (later-ends (files_by (tree_of new)) (place + 1) start t.ended new nothing t.session.end (session-ends t.session t.ended t.tells))
 
   keeps : (outcomes : List Outcome) (refs : Result (List RefLine) Refusal) → ((place : ℕ) (task : Task) (outcome : Outcome) → slice_get tasks place ≡ Some task → slice_get outcomes place ≡ Some outcome → TellsAt draw place task start outcome new) → ((lines : List RefLine) → refs ≡ Ok lines → TellsEnds (files_by (tree_of new)) h.changes new lines)
-      → Keeps (files_by (tree_of new)) tasks outcomes refs h.changes old start new
+      → Fulfils (files_by (tree_of new)) tasks outcomes refs h.changes old start new
   keeps outcomes refs told ends_told = record {
     opening = h.began.own;
     start_is = h.began.is;

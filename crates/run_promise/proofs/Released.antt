@@ -22,7 +22,7 @@ use Rattle.play_outcome.specs.declared.outcome.Shown.{Shown}
 use Rattle.play_outcome.specs.declared.outcome.Shown.TheVariants as S
 use Rattle.play_tasks.specs.Playing.{left_by}
 use Rattle.play_tasks.specs.Telling.{WereReleased}
-use Rattle.run_promise.specs.Lines.{beneath_shown, chunk_shown, key_shown, shown_of, Changed, Does, Plays}
+use Rattle.run_promise.specs.Lines.{beneath_shown, chunk_shown, key_shown, shown_of, Changed, Does, DoesAll}
 use Rattle.run_promise.specs.Promise.{EndsShowing}
 
 -- ---- one after the other
@@ -132,8 +132,8 @@ does-after line C.Lease t shown after u a d =
     let one : AreAfter (S.Lease line d.0 d.1 ∷ []) after = subst (λ (x : List Shown). AreAfter x after) d.2 a in
     (d.0, one.3.0, one.2 ∙ (ap (λ (y : Shown). y ∷ one.1) one.3.1 ∙ ap (λ (l : List Shown). S.Lease line d.0 one.3.0 ∷ l) one.4), d.3)
 
-pub plays-after : (ls : List Line) (t : Tree) (shown after : List Shown) (u : Tree) → AreAfter shown after → Plays ls t shown u → Plays ls t after u
-unfolding Plays
+pub plays-after : (ls : List Line) (t : Tree) (shown after : List Shown) (u : Tree) → AreAfter shown after → DoesAll ls t shown u → DoesAll ls t after u
+unfolding DoesAll
 plays-after [] t shown after u a p = (none-after shown after p.0 a, p.1)
 plays-after (l ∷ ls) t shown after u a p =
     let parts = after-parts p.0 p.1 after (subst (λ (x : List Shown). AreAfter x after) p.3 a) in

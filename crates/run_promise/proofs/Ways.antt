@@ -27,13 +27,13 @@ use Rattle.session.specs.Sessions.{SessionState, base_tree, changes_in}
 use Rattle.commit_path.proofs.Knowing.{tree-by_rows}
 use Rattle.rebase.specs.Along.{Link}
 use Rattle.rebase.specs.AlongLaws.{MeansLaw, PassesAll}
-use Rattle.rebase.specs.Telling.{HasMoved, LogWasReadAs, Rises, WasWalked}
+use Rattle.rebase.specs.Telling.{CameToHead, LogWasReadAs, Rises, WasWalked}
 use Rattle.rebase.proofs.AsPut.{WasMade, log-logged, snapshot-made}
 use Rattle.play_tasks.specs.Solving.{WasCarried, WasRebased}
 use Rattle.run_histories.specs.Runs.{IsSound, IsChildOf}
 use Rattle.run_histories.proofs.Carrying.{IsFront, front-front, rebased-front}
 use Rattle.run_histories.proofs.Grounds.{initial-rows}
-use Rattle.run_promise.specs.Ways.{DidTo, Follows, Carried, stays, over}
+use Rattle.run_promise.specs.Ways.{DidTo, FollowsOn, Carried, stays, over}
 
 some-same : {A : Type 0} (a b : A) → Some a ≡ Some b → a ≡ b
 some-same a b e = cc
@@ -106,7 +106,7 @@ module _ (initial : InitialLaw) (means : (bytes_at : Place → Option (List ℕ)
         let bare : rows ≡ [] = some-same rows [] (sym rows_are ∙ ap (rows_of whole) at ∙ initial-rows initial whole sound.once (subst (λ (i : Id12). WasPut whole (Snapshot i)) at base_put)) in
         ap (λ (r : List NodeRow). get (nodes_in r) path) bare ∙ get-made {X = Node} [] path
 
-    pub link-follows : Follows (under rows) (under l.file.nodes) l.lists
+    pub link-follows : FollowsOn (under rows) (under l.file.nodes) l.lists
     link-follows = elim made.same [
       | inl same ↦ inl (by-cause (record { snap = made.snap; made = made.made; parent = ap (λ (f : SnapshotFile). f.parent) (sym same) ∙ rises }))
       | inr cut ↦ inr (by-cut (some-same base initial_id (sym rises ∙ ap (λ (f : SnapshotFile). f.parent) cut.0)))
@@ -132,7 +132,7 @@ module _ (initial : InitialLaw) (means : (bytes_at : Place → Option (List ℕ)
   abbrev pub HasBase : SessionState → Type 0
   HasBase s = (rows_of whole s.base ≡ Some s.rows) × WasPut whole (Snapshot s.base)
 
-  pub moved-way : (s t : SessionState) (count : ℕ) (then now : List Event) → IsFront now whole → HasBase s → HasMoved client policy s t count then now → Carried trees policy s.base (changes_in put s) t.base (changes_in put t)
+  pub moved-way : (s t : SessionState) (count : ℕ) (then now : List Event) → IsFront now whole → HasBase s → CameToHead client policy s t count then now → Carried trees policy s.base (changes_in put s) t.base (changes_in put t)
   moved-way s t count then now front has m =
       let passes = (means (bytes_at put)).solves policy s.held m.held (base_tree put s) m.solved.links m.solved.solved in
       let met = m.solved.met in
@@ -147,7 +147,7 @@ module _ (initial : InitialLaw) (means : (bytes_at : Place → Option (List ℕ)
   head-read then now (l ∷ ls) last base head rises read =
       head-read then now ls last l.file.id head rises.1 (All-tail (λ (f : SnapshotFile). WasReadAs client f.id f then now) l.file (map (λ (k : Link). k.file) (ls ++ last ∷ []) ++ []) read)
 
-  pub moved-base : (s t : SessionState) (count : ℕ) (then now : List Event) → IsFront now whole → HasMoved client policy s t count then now → HasBase t
+  pub moved-base : (s t : SessionState) (count : ℕ) (then now : List Event) → IsFront now whole → CameToHead client policy s t count then now → HasBase t
   moved-base s t count then now front m =
       let last : Link = record { file = m.snap; lists = m.solved.lists } in
       let walked = subst (λ (ls : List Link). WasWalked client s.base s.base m.head (map (λ (l : Link). l.file) ls ++ []) then now) m.solved.last m.solved.met.walked in

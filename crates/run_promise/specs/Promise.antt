@@ -1,6 +1,8 @@
--- What is promised of a run: of the lists of its branches, of each commit, of each read, and of how each task ended. In words of trees, and of the
--- events on branches; how files are read is a parameter. (Icechunk's manual, "Sessions", "Conflict resolution"; own.)
-use Rattle.std.specs.Prelude.{◌≡◌, ◌⊎◌, ℕ, ◌+◌, true, List, [], ◌∷◌, ◌++◌, length, Option, Some, Result, Ok, slice_get}
+-- What is promised of a run: of the lists of its branches, of each commit, of each read, and of how
+-- each task ended. In words of trees, and of the events on branches; how files are read is a
+-- parameter. (Icechunk's manual, "Sessions", "Conflict resolution"; own.)
+use Rattle.std.specs.Prelude.{◌≡◌, ◌⊎◌, ℕ, ◌+◌, true, List, [], ◌∷◌, ◌++◌}
+use Rattle.std.specs.Prelude.{length, Option, Some, Result, Ok, slice_get}
 use Rattle.ice_ids.specs.declared.Id12.{Id12}
 use Rattle.zarr_tree.specs.Trees.{Tree}
 use Rattle.zarr_tree.specs.Changes.{Changes, apply}
@@ -20,19 +22,21 @@ use Rattle.histories.specs.Tags.{Stands}
 use Rattle.histories.specs.TagCalls.{tag_of, TagAgrees, StandsByState}
 use Rattle.script_calls.specs.declared.calls.Access.{Access}
 use Rattle.script_calls.specs.declared.calls.Access.TheVariants.{Write, Read}
-use Rattle.script_calls.specs.declared.calls.Call.TheVariants.{Commit as Commit_line, Lease as Lease_line}
+use Rattle.script_calls.specs.declared.calls.Call.TheVariants.{Commit as Commit_line}
+use Rattle.script_calls.specs.declared.calls.Call.TheVariants.{Lease as Lease_line}
 use Rattle.script_calls.specs.declared.calls.Head.TheVariants.{Session}
 use Rattle.play_script.specs.declared.scripts.Line.{Line}
 use Rattle.play_script.specs.declared.scripts.Task.{Task}
 use Rattle.play_outcome.specs.declared.outcome.Shown.{Shown}
 use Rattle.play_outcome.specs.declared.outcome.Shown.TheVariants.{Lease as Shown_lease}
 use Rattle.play_outcome.specs.declared.outcome.End.{End}
-use Rattle.play_outcome.specs.declared.outcome.End.TheVariants.{Committed, Collected, Done, Refused, Stopped, InDoubt, Expired, Checked}
+use Rattle.play_outcome.specs.declared.outcome.End.TheVariants.{Committed, Collected, Done, Refused}
+use Rattle.play_outcome.specs.declared.outcome.End.TheVariants.{Stopped, InDoubt, Expired, Checked}
 use Rattle.play_outcome.specs.declared.outcome.Outcome.{Outcome}
 use Rattle.play_outcome.specs.declared.outcome.RefLine.{RefLine}
 use Rattle.play_tasks.specs.Playing.{policy_of}
 use Rattle.play_course.specs.Leaving.{TellsEnds}
-use Rattle.run_promise.specs.Lines.{Plays}
+use Rattle.run_promise.specs.Lines.{DoesAll}
 use Rattle.run_promise.specs.Ways.{Carried}
 
 -- ---- where a session begins
@@ -41,8 +45,10 @@ abbrev pub at_of : Access → At
 at_of (Write branch tries policy) = At.Branch branch
 at_of (Read at) = at
 
--- The client's own get of a branch, since the tasks began: the list of the branch ended then with this snapshot.
-pub record FoundBranch (files : Files) (changes : ℕ → Changes) (client : ℕ) (branch : List ℕ) (base : Id12) (start journal : List Event) : Type 0 where
+-- The client's own get of a branch, since the tasks began: the list of the branch
+-- ended then with this snapshot.
+pub record FoundBranch (files : Files) (changes : ℕ → Changes) (client : ℕ) (branch : List ℕ)
+    (base : Id12) (start journal : List Event) : Type 0 where
   pub before : List Event
   pub event : Event
   pub after : List Event
@@ -56,7 +62,8 @@ pub record FoundBranch (files : Files) (changes : ℕ → Changes) (client : ℕ
   pub names : entry.id ≡ base
 
 -- The client's own get of a tag's tombstone: the tag stood then, as it was made with this snapshot.
-pub record FoundTag (files : Files) (client : ℕ) (tag : List ℕ) (base : Id12) (start journal : List Event) : Type 0 where
+pub record FoundTag (files : Files) (client : ℕ) (tag : List ℕ) (base : Id12)
+    (start journal : List Event) : Type 0 where
   pub before : List Event
   pub event : Event
   pub after : List Event
@@ -69,21 +76,27 @@ pub record FoundTag (files : Files) (client : ℕ) (tag : List ℕ) (base : Id12
   pub stood : tag_of files before tag ≡ Stands entry
   pub names : entry.id ≡ base
 
--- the snapshot at which a session begins is what the branch or the tag named when its client asked, or the one that was asked for by its id
+-- the snapshot at which a session begins is what the branch or the tag named when its client asked,
+-- or the one that was asked for by its id
 abbrev pub Began : Files → (ℕ → Changes) → ℕ → At → Id12 → (start journal : List Event) → Type 0
-Began files changes client (At.Branch branch) base start journal = FoundBranch files changes client branch base start journal
-Began files changes client (At.Tag tag) base start journal = FoundTag files client tag base start journal
+Began files changes client (At.Branch branch) base start journal =
+    FoundBranch files changes client branch base start journal
+Began files changes client (At.Tag tag) base start journal =
+    FoundTag files client tag base start journal
 Began files changes client (At.Snapshot id) base start journal = base ≡ id
 
 -- ---- sessions
--- A session of a task of this client: it began at what the task's head asks for, and the first lines of the task's body were played on it, one after
--- another. They showed this, and left its tree so: the base's under the session's own changes.
-pub record IsSession (files : Files) (changes : ℕ → Changes) (task : Task) (access : Access) (client : ℕ) (start journal : List Event) (played : List Line) (shown : List Shown) (base : Id12) (own : Changes) : Type 0 where
+-- A session of a task of this client: it began at what the task's head asks for, and the first
+-- lines of the task's body were played on it, one after another. They showed this, and left its
+-- tree so: the base's under the session's own changes.
+pub record IsSession (files : Files) (changes : ℕ → Changes) (task : Task) (access : Access)
+    (client : ℕ) (start journal : List Event) (played : List Line) (shown : List Shown)
+    (base : Id12) (own : Changes) : Type 0 where
   pub head_is : task.head ≡ Session access
   pub began : Began files changes client (at_of access) base start journal
   pub tree : Tree
   pub has : files.tree base ≡ Some tree
-  pub plays : Plays played tree shown (apply own tree)
+  pub plays : DoesAll played tree shown (apply own tree)
 
 -- ---- reads
 -- The line at which a session ended was a lease, which may stand, and is shown.
@@ -111,14 +124,16 @@ EndsBy l (Stopped line why removed) = ⊥
 EndsBy l (Expired line cases result) = ⊥
 EndsBy l (Checked line faults result) = ⊥
 
--- how a task ends of whose body these lines are left: it is done where there is none, else it ends by the first of them
+-- how a task ends of whose body these lines are left: it is done where there is none,
+-- else it ends by the first of them
 abbrev pub EndsWith : (left : List Line) → End → Type 0
 EndsWith [] end = end ≡ Done
 EndsWith (l ∷ ls) end = EndsBy l end
 
--- A session of the task showed what the first lines of the task's body show on it, and what the line showed at which it ended. So it is done only
--- where all lines were played.
-pub record ShowsLines (files : Files) (changes : ℕ → Changes) (task : Task) (access : Access) (client : ℕ) (start journal : List Event) (outcome : Outcome) : Type 0 where
+-- A session of the task showed what the first lines of the task's body show on it, and what the
+-- line showed at which it ended. So it is done only where all lines were played.
+pub record ShowsLines (files : Files) (changes : ℕ → Changes) (task : Task) (access : Access)
+    (client : ℕ) (start journal : List Event) (outcome : Outcome) : Type 0 where
   pub played : List Line
   pub left : List Line
   pub body_is : task.body ≡ played ++ left
@@ -137,15 +152,18 @@ pub record WasUnopened (task : Task) (outcome : Outcome) : Type 0 where
   pub why : Refusal
   pub end_is : outcome.end ≡ Refused task.line why
 
--- A task that opens a session was refused, as its session wasn't opened; or it showed what the lines of its body show on its session, up to where it
--- ended.
-abbrev pub ShowsRight : Files → (ℕ → Changes) → Task → Access → ℕ → List Event → List Event → Outcome → Type 0
-ShowsRight files changes task access client start journal outcome = WasUnopened task outcome ⊎ ShowsLines files changes task access client start journal outcome
+-- A task that opens a session was refused, as its session wasn't opened; or it showed what the
+-- lines of its body show on its session, up to where it ended.
+abbrev pub ShowsRight : Files → (ℕ → Changes) → Task → Access → ℕ → List Event
+    → List Event → Outcome → Type 0
+ShowsRight files changes task access client start journal outcome =
+    WasUnopened task outcome ⊎ ShowsLines files changes task access client start journal outcome
 
 -- ---- commits
--- The event, behind this journal, is a commit that took effect, also where its answer was lost: a put of the branch over this version, with a
--- reference to this snapshot.
-pub record TakesEffect (files : Files) (journal : List Event) (event : Event) (branch : List ℕ) (old : ℕ) (id : Id12) : Type 0 where
+-- The event, behind this journal, is a commit that took effect, also where its answer was lost: a
+-- put of the branch over this version, with a reference to this snapshot.
+pub record TakesEffect (files : Files) (journal : List Event) (event : Event) (branch : List ℕ)
+    (old : ℕ) (id : Id12) : Type 0 where
   pub bytes : List ℕ
   pub op_is : event.op ≡ PutOver (Branch branch) bytes (version_at old) Commit
   pub names : files.ref bytes ≡ Some id
@@ -154,9 +172,12 @@ pub record TakesEffect (files : Files) (journal : List Event) (event : Event) (b
   pub stands : found journal (Branch branch) ≡ Some stored
   pub version : stored.version ≡ old
 
--- Such an event is of a session of its client's task, up to a line that commits it. Its changes were carried over the commits of others, from its base
--- to the last entry of the branch; the entry that it makes has the tree of that one under what is left of them, and of nothing else.
-pub record IsCommit (files : Files) (changes : ℕ → Changes) (tasks : List Task) (start whole journal : List Event) (event : Event) (branch : List ℕ) (old : ℕ) (id : Id12) : Type 0 where
+-- Such an event is of a session of its client's task, up to a line that commits it. Its changes
+-- were carried over the commits of others, from its base to the last entry of the branch; the entry
+-- that it makes has the tree of that one under what is left of them, and of nothing else.
+pub record IsCommit (files : Files) (changes : ℕ → Changes) (tasks : List Task)
+    (start whole journal : List Event) (event : Event) (branch : List ℕ) (old : ℕ)
+    (id : Id12) : Type 0 where
   pub place : ℕ
   pub client_is : event.client ≡ place + 1
   pub task : Task
@@ -184,7 +205,8 @@ pub record IsCommit (files : Files) (changes : ℕ → Changes) (tasks : List Ta
 
 -- ---- ends
 -- the client has such an event since the tasks began
-pub record HasCommitted (files : Files) (client : ℕ) (id : Id12) (start journal : List Event) : Type 0 where
+pub record HasCommitOf (files : Files) (client : ℕ) (id : Id12)
+    (start journal : List Event) : Type 0 where
   pub before : List Event
   pub event : Event
   pub after : List Event
@@ -196,40 +218,56 @@ pub record HasCommitted (files : Files) (client : ℕ) (id : Id12) (start journa
   pub old : ℕ
   pub takes_effect : TakesEffect files before event branch old id
 
--- A task that tells a commit made it, and one that is in doubt made the commit of that snapshot, or none; any other made none. No task of a session
--- tells a collection, an expiry or a check.
+-- A task that tells a commit made it, and one that is in doubt made the commit of that snapshot, or
+-- none; any other made none. No task of a session tells a collection, an expiry or a check.
 abbrev pub EndsRight : Files → ℕ → End → (start journal : List Event) → Type 0
-EndsRight files client (Committed id) start journal = HasCommitted files client id start journal
+EndsRight files client (Committed id) start journal = HasCommitOf files client id start journal
 EndsRight files client (Collected removed) start journal = ⊥
-EndsRight files client Done start journal = (id : Id12) → ¬ HasCommitted files client id start journal
-EndsRight files client (Refused line why) start journal = (id : Id12) → ¬ HasCommitted files client id start journal
+EndsRight files client Done start journal =
+    (id : Id12) → ¬ HasCommitOf files client id start journal
+EndsRight files client (Refused line why) start journal =
+    (id : Id12) → ¬ HasCommitOf files client id start journal
 EndsRight files client (Stopped line why removed) start journal = ⊥
-EndsRight files client (InDoubt id how) start journal = (other : Id12) → HasCommitted files client other start journal → other ≡ id
+EndsRight files client (InDoubt id how) start journal =
+    (other : Id12) → HasCommitOf files client other start journal → other ≡ id
 EndsRight files client (Expired line cases result) start journal = ⊥
 EndsRight files client (Checked line faults result) start journal = ⊥
 
 -- ---- the promise
--- Of a run over a journal that was old, whose tasks began at start and ended with these outcomes, nobody else acting; `changes` are those of the commit
--- at each position.
-pub record Keeps (files : Files) (tasks : List Task) (outcomes : List Outcome) (refs : Result (List RefLine) Refusal) (changes : ℕ → Changes) (old start journal : List Event) : Type 0 where
+-- Of a run over a journal that was old, whose tasks began at start and ended with these outcomes,
+-- nobody else acting; `changes` are those of the commit at each position.
+pub record Fulfils (files : Files) (tasks : List Task) (outcomes : List Outcome)
+    (refs : Result (List RefLine) Refusal) (changes : ℕ → Changes)
+    (old start journal : List Event) : Type 0 where
   -- the tasks began in the run, behind the opening, by which no commit took effect
   pub opening : List Event
   pub start_is : start ≡ old ++ opening
-  pub uncommitted : (client : ℕ) (id : Id12) → ¬ HasCommitted files client id old start
-  -- each branch's updates form one list: each call on it got the answer of the list, each entry has its snapshot's tree, and each commit the tree of the
-  -- entry before it under the commit's changes; and at the end the branches stand so
+  pub uncommitted : (client : ℕ) (id : Id12) → ¬ HasCommitOf files client id old start
+  -- each branch's updates form one list: each call on it got the answer of the list, each entry has
+  -- its snapshot's tree, and each commit the tree of the entry before it under the commit's
+  -- changes; and at the end the branches stand so
   pub lists : IsHistory files (applied changes) journal
   pub stand : BranchesStand files (applied changes) journal
   -- each commit of the run that took effect is its session's solved changes on the entry before it
-  pub commits : (since rest : List Event) (event : Event) (branch : List ℕ) (version : ℕ) (id : Id12) → journal ≡ (old ++ since) ++ event ∷ rest → TakesEffect files (old ++ since) event branch version id
+  pub commits : (since rest : List Event) (event : Event)
+      (branch : List ℕ) (version : ℕ) (id : Id12)
+      → journal ≡ (old ++ since) ++ event ∷ rest
+      → TakesEffect files (old ++ since) event branch version id
       → IsCommit files changes tasks start journal (old ++ since) event branch version id
-  -- each read sees its session's base under its own changes, and each task ends where its lines do, or at the one that is told
-  pub reads : (place : ℕ) (task : Task) (outcome : Outcome) (access : Access) → slice_get tasks place ≡ Some task → slice_get outcomes place ≡ Some outcome → task.head ≡ Session access
+  -- each read sees its session's base under its own changes, and each task ends where its lines
+  -- do, or at the one that is told
+  pub reads : (place : ℕ) (task : Task) (outcome : Outcome) (access : Access)
+      → slice_get tasks place ≡ Some task → slice_get outcomes place ≡ Some outcome
+      → task.head ≡ Session access
       → ShowsRight files changes task access (place + 1) start journal outcome
   -- each client commits at most once: two commits of it that took effect are one event
-  pub once : (client : ℕ) (id other : Id12) (a : HasCommitted files client id old journal) (b : HasCommitted files client other old journal) → (a.before ≡ b.before) × (a.event ≡ b.event)
+  pub once : (client : ℕ) (id other : Id12) (a : HasCommitOf files client id old journal)
+      (b : HasCommitOf files client other old journal)
+      → (a.before ≡ b.before) × (a.event ≡ b.event)
   -- and each task ends as it tells
-  pub ends : (place : ℕ) (task : Task) (outcome : Outcome) (access : Access) → slice_get tasks place ≡ Some task → slice_get outcomes place ≡ Some outcome → task.head ≡ Session access → EndsRight files (place + 1) outcome.end start journal
+  pub ends : (place : ℕ) (task : Task) (outcome : Outcome) (access : Access)
+      → slice_get tasks place ≡ Some task → slice_get outcomes place ≡ Some outcome
+      → task.head ≡ Session access → EndsRight files (place + 1) outcome.end start journal
   -- each tag stands as it was made, or was dropped, and each call on it got the answer of its state
   pub tags : (tag : List ℕ) → StandsByState files journal tag
   pub tag_calls : Each (TagAgrees files) [] journal

@@ -1,5 +1,6 @@
 -- Own: the forms of heads and body lines, each by its words.
-use Rattle.std.specs.Prelude.{ℕ, ℤ, List, if◌then◌else◌, Option, Some, None, option_map, unwrap_or, Result, Ok, Err, codes}
+use Rattle.std.specs.Prelude.{ℕ, ℤ, List, if◌then◌else◌, Option, Some, None}
+use Rattle.std.specs.Prelude.{option_map, unwrap_or, Result, Ok, Err, codes}
 use Rattle.std.specs.Option.{option_or}
 use Rattle.repo_read.specs.declared.resolving.At.{At}
 use Rattle.repo_read.specs.declared.resolving.At.TheVariants as at
@@ -23,7 +24,9 @@ use Rattle.script_calls.specs.declared.calls.Class.TheVariants as c
 use Rattle.script_calls.specs.declared.forms.Form.{Form}
 use Rattle.script_values.specs.Words.{Text, next, one, two, three, four, five}
 use Rattle.script_values.specs.Parts.{◌&◌, made}
-use Rattle.script_values.specs.Values.{◌reads◌, path_of, text_of, ref_name_of, id_of, tries_in, policy_in, numbers_of, fill_of, index_of, bytes_of, byte_of, corner_of, cells_of, cutoff_of, flags_of}
+use Rattle.script_values.specs.Values.{◌reads◌, path_of, text_of, ref_name_of, id_of, tries_in}
+use Rattle.script_values.specs.Values.{policy_in, numbers_of, fill_of, index_of, bytes_of}
+use Rattle.script_values.specs.Values.{byte_of, corner_of, cells_of, cutoff_of, flags_of}
 use Rattle.script_values.specs.Arrays.{array_line_text}
 
 -- the words that a form takes, and what it makes of them
@@ -42,7 +45,8 @@ path_and_text rest = taken (next rest) (λ p. path_of p.0 & taken p.1 text_of)
 -- the text of an array that is told by its type, shape, chunks and fill value
 unfoldable pub array_of : Text → Text → Text → Text → Result Text ScriptKind
 array_of data_type shape chunks fill =
-    made (λ v. array_line_text v.0.0.0 v.0.0.1 v.0.1 v.1) (text_of data_type & numbers_of shape & numbers_of chunks & fill_of fill)
+    made (λ v. array_line_text v.0.0.0 v.0.0.1 v.0.1 v.1)
+    (text_of data_type & numbers_of shape & numbers_of chunks & fill_of fill)
 
 -- a path, and the array that four more words tell
 unfoldable pub path_and_array : Option Text → Result (Text × Text) ScriptKind
@@ -89,11 +93,13 @@ name_and_value rest = taken (next rest) (λ p. text_of p.0 & taken p.1 text_of)
 
 -- Lines by class: what a line of this first word calls, if the class has such a line.
 
--- `group PATH`, `array PATH TYPE SHAPE CHUNKS FILL`, `make PATH JSON`, `meta PATH JSON`, `drop PATH`
+-- `group PATH`, `array PATH TYPE SHAPE CHUNKS FILL`,
+-- `make PATH JSON`, `meta PATH JSON`, `drop PATH`
 unfoldable pub node_edit_of : Text → Option Text → Option (Result EditCall ScriptKind)
 node_edit_of first rest =
     if first reads codes "group" then Some (made edit.Group (lone_path rest)) else
-    (if first reads codes "array" then Some (made (λ v. edit.Array v.0 v.1) (path_and_array rest)) else
+    (if first reads codes "array"
+    then Some (made (λ v. edit.Array v.0 v.1) (path_and_array rest)) else
     (if first reads codes "make" then Some (made (λ v. edit.Make v.0 v.1) (path_and_text rest)) else
     (if first reads codes "meta" then Some (made (λ v. edit.Meta v.0 v.1) (path_and_text rest)) else
     (if first reads codes "drop" then Some (made edit.Drop (lone_path rest)) else None))))
@@ -101,26 +107,34 @@ node_edit_of first rest =
 -- `set PATH INDEX HEX`, `fill PATH INDEX BYTE`, `unset PATH INDEX`, `put PATH FROM TO CELLS`
 unfoldable pub chunk_edit_of : Text → Option Text → Option (Result EditCall ScriptKind)
 chunk_edit_of first rest =
-    if first reads codes "set" then Some (made (λ v. edit.Set v.0.0 v.0.1 v.1) (chunk_and_bytes rest)) else
-    (if first reads codes "fill" then Some (made (λ v. edit.Fill v.0.0 v.0.1 v.1) (chunk_and_byte rest)) else
-    (if first reads codes "unset" then Some (made (λ v. edit.Unset v.0 v.1) (path_and_index rest)) else
-    (if first reads codes "put" then Some (made (λ v. edit.Put v.0 v.1) (box_and_cells rest)) else None)))
+    if first reads codes "set"
+    then Some (made (λ v. edit.Set v.0.0 v.0.1 v.1) (chunk_and_bytes rest)) else
+    (if first reads codes "fill"
+    then Some (made (λ v. edit.Fill v.0.0 v.0.1 v.1) (chunk_and_byte rest)) else
+    (if first reads codes "unset"
+    then Some (made (λ v. edit.Unset v.0 v.1) (path_and_index rest)) else
+    (if first reads codes "put" then Some (made (λ v. edit.Put v.0 v.1) (box_and_cells rest))
+    else None)))
 
 -- `zset KEY HEX`, `zdel KEY`
 unfoldable pub key_edit_of : Text → Option Text → Option (Result EditCall ScriptKind)
 key_edit_of first rest =
-    if first reads codes "zset" then Some (made (λ v. edit.KeySet v.0 v.1) (key_and_bytes rest)) else
+    if first reads codes "zset"
+    then Some (made (λ v. edit.KeySet v.0 v.1) (key_and_bytes rest)) else
     (if first reads codes "zdel" then Some (made edit.KeyErase (lone_key rest)) else None)
 
 abbrev pub edit_of : Text → Option Text → Option (Result EditCall ScriptKind)
-edit_of first rest = option_or (node_edit_of first rest) (option_or (chunk_edit_of first rest) (key_edit_of first rest))
+edit_of first rest =
+    option_or (node_edit_of first rest)
+    (option_or (chunk_edit_of first rest) (key_edit_of first rest))
 
 -- `list PATH`, `get PATH`, `chunk PATH INDEX`, `cells PATH FROM TO`, `zget KEY`
 unfoldable pub read_of : Text → Option Text → Option (Result ReadCall ScriptKind)
 read_of first rest =
     if first reads codes "list" then Some (made read.List (lone_path rest)) else
     (if first reads codes "get" then Some (made read.Get (lone_path rest)) else
-    (if first reads codes "chunk" then Some (made (λ v. read.Chunk v.0 v.1) (path_and_index rest)) else
+    (if first reads codes "chunk"
+    then Some (made (λ v. read.Chunk v.0 v.1) (path_and_index rest)) else
     (if first reads codes "cells" then Some (made read.Cells (lone_box rest)) else
     (if first reads codes "zget" then Some (made read.KeyGet (lone_key rest)) else None))))
 
@@ -195,7 +209,9 @@ form_of first rest =
 
 -- `write BRANCH TRIES POLICY`
 unfoldable pub write_of : Option Text → Result Access ScriptKind
-write_of rest = taken (three rest) (λ w. made (λ v. access.Write v.0.0 v.0.1 v.1) (ref_name_of w.0 & tries_in w.1 & policy_in w.2))
+write_of rest =
+    taken (three rest)
+    (λ w. made (λ v. access.Write v.0.0 v.0.1 v.1) (ref_name_of w.0 & tries_in w.1 & policy_in w.2))
 
 -- `refs`, and nothing else
 abbrev pub refs_of : Option Text → Result Head ScriptKind
@@ -208,7 +224,8 @@ collect_of rest = made head.Collect (taken (one rest) cutoff_of)
 
 -- `expire CUTOFF FLAGS`
 unfoldable pub expire_of : Option Text → Result Head ScriptKind
-expire_of rest = made (λ v. head.Expire v.0 v.1.0 v.1.1) (taken (two rest) (λ w. cutoff_of w.0 & flags_of w.1))
+expire_of rest =
+    made (λ v. head.Expire v.0 v.1.0 v.1.1) (taken (two rest) (λ w. cutoff_of w.0 & flags_of w.1))
 
 -- `check`, and nothing else
 abbrev pub check_of : Option Text → Result Head ScriptKind

@@ -11,7 +11,8 @@ use Rattle.script_values.specs.Values.{◌reads◌}
 
 -- elements of `int8` and `uint8` have one byte; those of all other types are taken to have more
 abbrev pub codec_of : Text → Text
-codec_of data_type = codec_text (if (data_type reads codes "int8") || (data_type reads codes "uint8") then Int8 else Int16)
+codec_of data_type = codec_text
+    (if (data_type reads codes "int8") || (data_type reads codes "uint8") then Int8 else Int16)
 
 -- the plain text of an array of this type
 abbrev pub array_line_text : Text → List ℕ → List ℕ → ℤ → Text

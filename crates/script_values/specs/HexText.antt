@@ -17,4 +17,6 @@ bytes_text (b ∷ bs) = flat_map byte_text (b ∷ bs)
 
 -- a word stands for bytes just where it is their text
 abbrev pub HexLaw : Type 0
-HexLaw = (w : Text) (bytes : List ℕ) → w ≢ [] → (bytes_of w ≡ Ok bytes) ↔ (IsBytes bytes × (w ≡ bytes_text bytes))
+HexLaw =
+    (w : Text) (bytes : List ℕ) → w ≢ []
+    → (bytes_of w ≡ Ok bytes) ↔ (IsBytes bytes × (w ≡ bytes_text bytes))

@@ -1,5 +1,6 @@
 -- Own: parts of a line, all of their values, or the earliest kind of fault.
-use Rattle.std.specs.Prelude.{ℕ, Bool, true, false, Result, Ok, Err, List, [], ◌∷◌, nat_le, if◌then◌else◌, codes}
+use Rattle.std.specs.Prelude.{ℕ, Bool, true, false, Result, Ok, Err}
+use Rattle.std.specs.Prelude.{List, [], ◌∷◌, nat_le, if◌then◌else◌, codes}
 use Rattle.script_values.specs.declared.kinds.ScriptKind.{ScriptKind}
 use Rattle.script_values.specs.declared.kinds.ScriptKind.TheVariants as k
 
@@ -36,7 +37,8 @@ kind_text k.Turn = codes "turn"
 
 -- two parts: a line's fault is the earliest of the faults of its parts
 infixl 20 ◌&◌
-abbrev pub ◌&◌ : {A B : Type 0} → Result A ScriptKind → Result B ScriptKind → Result (A × B) ScriptKind
+abbrev pub ◌&◌ : {A B : Type 0} → Result A ScriptKind → Result B ScriptKind
+    → Result (A × B) ScriptKind
 (Ok x) & (Ok y) = Ok (x, y)
 (Ok x) & (Err kind) = Err kind
 (Err kind) & (Ok y) = Err kind

@@ -1,5 +1,8 @@
 -- Own: what a word stands for, or the kind of its fault.
-use Rattle.std.specs.Prelude.{ℕ, ◌+◌, ◌-◌, ◌*◌, ◌/◌, ◌^◌, ◌==◌, ℤ, pos, negsuc, int_le, List, [], ◌∷◌, if◌then◌else◌, Option, Some, None, Result, Ok, Err, Bool, true, false, not, ◌&&◌, ◌||◌, nat_le, length, drop, slice_index, bytes_eq, codes}
+use Rattle.std.specs.Prelude.{ℕ, ◌+◌, ◌-◌, ◌*◌, ◌/◌, ◌^◌, ◌==◌, ℤ, pos, negsuc}
+use Rattle.std.specs.Prelude.{int_le, List, [], ◌∷◌, if◌then◌else◌, Option, Some, None}
+use Rattle.std.specs.Prelude.{Result, Ok, Err, Bool, true, false, not, ◌&&◌, ◌||◌}
+use Rattle.std.specs.Prelude.{nat_le, length, drop, slice_index, bytes_eq, codes}
 use Rattle.jiff.specs.Words.{parse_timestamp, Error}
 use Rattle.std.specs.List.{list_all}
 use Rattle.std.specs.Char.{is_ascii_digit, is_ascii_lowercase}
@@ -54,7 +57,8 @@ abbrev pub is_digits : Text → Bool
 is_digits w = not (length w == 0) && list_all is_ascii_digit w
 
 abbrev pub is_number : ℕ → ℕ → Text → Bool
-is_number least most w = is_digits w && nat_le least (digits_value 10 w) && nat_le (digits_value 10 w) most
+is_number least most w =
+    is_digits w && nat_le least (digits_value 10 w) && nat_le (digits_value 10 w) most
 
 unfoldable pub number_of : ℕ → ℕ → Text → Result ℕ ScriptKind
 number_of least most w = if is_number least most w then Ok (digits_value 10 w) else Err k.Number
@@ -111,9 +115,13 @@ abbrev pub is_signed : ℤ → Bool
 is_signed z = int_le (negsuc (2 ^ 127 - 1)) z && int_le z (pos (2 ^ 127 - 1))
 
 unfoldable pub fill_of : Text → Result ℤ ScriptKind
-fill_of w = if is_digits (magnitude w) && is_signed (signed_digits_value 10 w) then Ok (signed_digits_value 10 w) else Err k.Number
+fill_of w =
+    if is_digits (magnitude w) && is_signed (signed_digits_value 10 w)
+    then Ok (signed_digits_value 10 w)
+    else Err k.Number
 
--- the numbers of cells are written as fill values are, with commas between them, or `-` where there are none
+-- the numbers of cells are written as fill values are, with commas between
+-- them, or `-` where there are none
 unfoldable pub cells_of : Text → Result (List ℤ) ScriptKind
 cells_of w = if w reads codes "-" then Ok [] else each fill_of (parts 44 w)
 
@@ -134,7 +142,8 @@ micros_number_of w = if nat_le (length w) 20 then number_of 0 (2 ^ 64 - 1) w els
 
 -- a cutoff: microseconds since 1970, or `@` (64) and an instant, as jiff reads it
 unfoldable pub cutoff_of : Text → Result ℕ ScriptKind
-cutoff_of w = if slice_index w 0 == 64 then micros_of (parse_timestamp (drop 1 w)) else micros_number_of w
+cutoff_of w =
+    if slice_index w 0 == 64 then micros_of (parse_timestamp (drop 1 w)) else micros_number_of w
 
 -- which refs an expiry may drop: whether branches, and whether tags
 unfoldable pub flags_of : Text → Result (Bool × Bool) ScriptKind
@@ -157,7 +166,8 @@ pick_in w =
     (if w reads codes "ours" then Ok pick.Ours else
     (if w reads codes "theirs" then Ok pick.Theirs else Err k.Word))
 
--- whether updated arrays may be dropped, and whether groups may: `a`, `g` or `ag` behind a `+`, and neither where none stands
+-- whether updated arrays may be dropped, and whether groups may: `a`, `g` or `ag` behind a
+-- `+`, and neither where none stands
 unfoldable pub drops_in : Option Text → Result (Bool × Bool) ScriptKind
 drops_in None = Ok (false, false)
 drops_in (Some w) =

@@ -1,5 +1,6 @@
 -- Own: lines, and the words of a line.
-use Rattle.std.specs.Prelude.{ℕ, List, [], ◌∷◌, ◌==◌, if◌then◌else◌, Option, Some, None, option_map, option_and_then}
+use Rattle.std.specs.Prelude.{ℕ, List, [], ◌∷◌, ◌==◌, if◌then◌else◌}
+use Rattle.std.specs.Prelude.{Option, Some, None, option_map, option_and_then}
 use Rattle.std.specs.List.{slice_split, onto_first}
 use denote.Ref.{Bor}
 
@@ -57,4 +58,5 @@ abbrev pub four : Option Text → Option (Text × Text × Text × Text)
 four rest = option_and_then (λ p. option_map (λ q. (p.0, q.0, q.1, q.2)) (three p.1)) (next rest)
 
 abbrev pub five : Option Text → Option (Text × Text × Text × Text × Text)
-five rest = option_and_then (λ p. option_map (λ q. (p.0, q.0, q.1, q.2, q.3)) (four p.1)) (next rest)
+five rest =
+    option_and_then (λ p. option_map (λ q. (p.0, q.0, q.1, q.2, q.3)) (four p.1)) (next rest)

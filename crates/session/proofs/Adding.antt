@@ -11,7 +11,7 @@ use Rattle.zarr_path.specs.Paths.{path_cmp, same_path, root, parent_of}
 use Rattle.zarr_path.proofs.OrderLaws.{total}
 use Rattle.zarr_meta.specs.declared.faults.MetaFault.{MetaFault}
 use Rattle.zarr_meta.specs.declared.metas.Meta.{Meta}
-use Rattle.zarr_meta.specs.declared.views.View.{View}
+use Rattle.zarr_meta.specs.declared.views.MetaView.{MetaView}
 use Rattle.zarr_meta.specs.Meta.{meta_of}
 use Rattle.zarr_tree.specs.declared.edit.EditFault.{EditFault}
 use Rattle.zarr_tree.specs.declared.edit.EditFault.TheVariants as E
@@ -31,7 +31,7 @@ use Rattle.session.specs.inside.Reads.{Reads}
 use Rattle.session.proofs.Refusing.{unwritten, faulty, allowed, refused_by, taken}
 
 -- ---- before the edit
-module _ (fault : Result View MetaFault → Option MetaFault) (s : SessionState) (p text : List ℕ) where
+module _ (fault : Result MetaView MetaFault → Option MetaFault) (s : SessionState) (p text : List ℕ) where
   pub read_only : writes s ≡ false → added fault s p text ≡ Err R.ReadOnly
   unfolding added
   read_only e = unwritten (writes s) (unless_bad (fault (meta_of text)) (entered s p text)) e

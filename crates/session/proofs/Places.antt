@@ -8,11 +8,10 @@ use Rattle.zarr_tree.specs.declared.edit.EditFault.{EditFault}
 use Rattle.zarr_tree.specs.Nodes.{Node}
 use Rattle.zarr_tree.specs.Held.{Held, nodes_over}
 use Rattle.zarr_changes.specs.declared.placing.Placed.{Placed}
-use Rattle.zarr_changes.specs.Edits.{with_chunk as held_with}
+use Rattle.zarr_changes.specs.Edits.{with_entry, placed_chunk}
 use Rattle.zarr_changes.specs.Placing.{with_placed}
 use Rattle.zarr_changes.specs.Sets.{set_refusal}
 use Rattle.manifest_file.specs.declared.manifest.Place.{Place}
-use Rattle.store_api.specs.declared.machines.Refusal.{Refusal}
 use Rattle.session.specs.Sessions.{SessionState, base_nodes, nodes_seen, writes}
 use Rattle.session.specs.Editing.{if_writes, unless_refused}
 use Rattle.session.specs.Chunks.{with_chunk, after_draw}
@@ -20,7 +19,7 @@ use Rattle.session.specs.Placing.{set_allowed, with_places}
 use Rattle.session.proofs.Changing.{IsFew}
 
 -- ---- the nodes, and what else stays
-seen_by : (h : Held Place) (nodes : FinMap path_cmp Node) (index : List ℕ) (place : Place) (there : Option Node) → nodes_over (held_with h index place there) nodes ≡ nodes_over h nodes
+seen_by : (h : Held Place) (nodes : FinMap path_cmp Node) (index : List ℕ) (place : Place) (there : Option Node) → nodes_over (placed_chunk h index place there) nodes ≡ nodes_over h nodes
 seen_by h nodes index place None = refl
 seen_by h nodes index place (Some n) = refl
 
@@ -53,12 +52,12 @@ module _ (path : List ℕ) where
   pub places-none : (placed : List Placed) (s : SessionState) → get (nodes_seen s) path ≡ None → with_places s path placed ≡ s
   places-none [] s none = refl
   places-none (p ∷ placed) s none =
-      ap (λ (there : Option Node). with_places (record s { held = held_with s.held p.index p.place there }) path placed) none ∙ places-none placed s none
+      ap (λ (there : Option Node). with_places (record s { held = placed_chunk s.held p.index p.place there }) path placed) none ∙ places-none placed s none
 
   places-there : (placed : List Placed) (s : SessionState) (n : Node) → get (nodes_seen s) path ≡ Some n → with_places s path placed ≡ record s { held = record (s.held) { chunks = with_placed s.held.chunks n.id placed } }
   places-there [] s n found = refl
   places-there (p ∷ placed) s n found =
-      ap (λ (there : Option Node). with_places (record s { held = held_with s.held p.index p.place there }) path placed) found ∙ places-there placed (record s { held = held_with s.held p.index p.place (Some n) }) n found
+      ap (λ (there : Option Node). with_places (record s { held = placed_chunk s.held p.index p.place there }) path placed) found ∙ places-there placed (record s { held = placed_chunk s.held p.index p.place (Some n) }) n found
 
   pub places-entered : {A : Type 0} (r : Result (Unit {0}) A) (placed : List Placed) (s : SessionState) (n : Node) (after : Held Place) → get (nodes_seen s) path ≡ Some n
       → OnOk r (after ≡ record (s.held) { chunks = with_placed s.held.chunks n.id placed }) → OnOk r (record s { held = after } ≡ with_places s path placed)
@@ -70,6 +69,11 @@ pub few-placed : {A : Type 0} (r : Result (Unit {0}) A) (h after : Held Place) (
     → OnErr r (after ≡ h) → IsFew h nodes after
 few-placed (Ok done) h after nodes id placed few ok err = subst (λ (x : Held Place). IsFew h nodes x) (sym ok) few
 few-placed (Err e) h after nodes id placed few ok err = subst (λ (x : Held Place). IsFew h nodes x) (sym err) few
+
+pub few-entry : {A : Type 0} (r : Result (Unit {0}) A) (h after : Held Place) (nodes : FinMap path_cmp Node) (id : Id8) (index : List ℕ) (place : Place) → IsFew h nodes h → OnOk r (after ≡ record h { chunks = with_entry h.chunks id index (Some place) })
+    → OnErr r (after ≡ h) → IsFew h nodes after
+few-entry (Ok done) h after nodes id index place few ok err = subst (λ (x : Held Place). IsFew h nodes x) (sym ok) few
+few-entry (Err e) h after nodes id index place few ok err = subst (λ (x : Held Place). IsFew h nodes x) (sym err) few
 
 -- ---- what is asked before
 pub record IsAllowed (s : SessionState) (path index : List ℕ) (len : ℕ) : Type 0 where

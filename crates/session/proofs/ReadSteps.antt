@@ -27,7 +27,7 @@ use Rattle.session.specs.declared.getting.Getting.{Getting}
 use Rattle.session.specs.Sessions.{SessionState, nodes_seen}
 use Rattle.session.specs.Editing.{refusal_of_edit}
 use Rattle.session.specs.Chunks.{read_listed, read_found, read_at, get_program}
-use Rattle.session.specs.Getting.{reading_rest, Gets, GetRefused}
+use Rattle.session.specs.Getting.{reading_rest, GetBegun, GetRefused}
 use Rattle.session.specs.inside.Working.{Begins}
 
 -- what is left from behind the last element on
@@ -94,8 +94,8 @@ module _ (s : SessionState) (p i : List ℕ) where
   get_refused fault e = get_told (get_program s p i) s fault (by_found (Err fault) e)
 
   -- or it has it
-  pub get_found : (at : ChunkAt) (result : Result Getting (SessionState × Refusal)) → chunk_found (nodes_seen s) p i ≡ Ok at → Gets (read_at s p i at (entry_in s.held.chunks at.node i)) s result → Gets (get_program s p i) s result
-  get_found at result e g = subst (λ (q : Program Value). Gets q s result) (sym (by_found (Ok at) e)) g
+  pub get_found : (at : ChunkAt) (result : Result Getting (SessionState × Refusal)) → chunk_found (nodes_seen s) p i ≡ Ok at → GetBegun (read_at s p i at (entry_in s.held.chunks at.node i)) s result → GetBegun (get_program s p i) s result
+  get_found at result e g = subst (λ (q : Program Value). GetBegun q s result) (sym (by_found (Ok at) e)) g
 
   -- the session has no entry of its own
   pub first_begins : (at : ChunkAt) (own : List ManifestRef) (ids : List Id12) (first : First) → entry_in s.held.chunks at.node i ≡ None → own ≡ own_manifests s.rows p at.node → ids ≡ ids_within i own

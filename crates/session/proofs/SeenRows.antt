@@ -1,6 +1,6 @@
 -- What a session reads, and that it begins with no more nodes than a tree may have.
 use Rattle.std.proofs.Common.{◌≡◌, ℕ, ◌≤◌, List, map, sym, ap, subst, ◌∙◌, arith}
-use Rattle.std.specs.Prelude.{Bool, true, Option, None, Some, is_some, option_map, Ok}
+use Rattle.std.specs.Prelude.{Bool, true, Option, None, Some, is_some, option_map, Ok, is_ok, IsOk}
 use Rattle.std.specs.List.{filter}
 use Rattle.std.specs.FinMap.{FinMap, get, entries, len, len-empty}
 use Rattle.std.proofs.lemmas.Simd.{map-map}
@@ -32,6 +32,10 @@ pub listed-there : {F : Type 0} (found_of : F → Node) (found : Option F) (s : 
     → list ≡ map row_listing rows → listed s p ≡ Ok list
 listed-there found_of None s p rows list n f r l = absurd (cc)
 listed-there found_of (Some x) s p rows list n f r l = sym (ap (λ (o : Option Node). if_there o (beneath s p)) f) ∙ ap (λ (x : List Listing). Ok x) (sym (listed-rows (nodes_seen s) p) ∙ sym (ap (map row_listing) r) ∙ sym l)
+
+pub list-there : {F : Type 0} (found_of : F → Node) (found : Option F) (s : SessionState) (p : List ℕ) → is_some found ≡ true → option_map found_of found ≡ get (nodes_seen s) p → IsOk (listed s p)
+list-there found_of None s p n f = absurd (cc)
+list-there found_of (Some x) s p n f = ap (λ (o : Option Node). is_ok (if_there o (beneath s p))) (sym f)
 
 -- what was loaded has no more nodes than a tree may have
 pub few-loaded : (s : SnapshotFile) (held : Held Place) → IsWritable s → held ≡ nothing → len (nodes_over held (nodes_in s.nodes)) ≤ most_nodes

@@ -13,7 +13,8 @@ use Rattle.session.specs.Sessions.{SessionState, nodes_seen}
 -- the array that a node is, with the node's id
 abbrev pub array_of : Option Node → Result (Id8 × ArrayView) Refusal
 array_of None = Err (R.Edit E.NoNode)
-array_of (Some n) = ok_or (option_map (λ array. (n.id, array)) (array_in n.text)) (R.Edit E.NotArray)
+array_of (Some n) =
+    ok_or (option_map (λ array. (n.id, array)) (array_in n.text)) (R.Edit E.NotArray)
 
 -- the array at a path: NoNode, NotArray
 abbrev pub array_at : SessionState → (path : List ℕ) → Result (Id8 × ArrayView) Refusal

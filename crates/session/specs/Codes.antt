@@ -24,13 +24,17 @@ abbrev pub coded_pairs : Coded Pairs
 coded_pairs = coded_list (coded× coded_ℕ coded_ℕ)
 
 abbrev pub coded_named : Coded ManifestRef
-coded_named = code_by (List ℕ × Pairs) (coded× coded_path coded_pairs) (λ m. (m.id.0, m.extents)) (λ p. record { id = record { 0 = p.0 }; extents = p.1 }) (λ _. refl)
+coded_named =
+    code_by (List ℕ × Pairs) (coded× coded_path coded_pairs) (λ m. (m.id.0, m.extents))
+    (λ p. record { id = record { 0 = p.0 }; extents = p.1 }) (λ _. refl)
 
 abbrev pub Dimensions : Type 0
 Dimensions = Pairs × (Option (List (Option (List ℕ))) × List ManifestRef)
 
 abbrev pub coded_dimensions : Coded Dimensions
-coded_dimensions = coded× coded_pairs (coded× (coded_option (coded_list (coded_option coded_path))) (coded_list coded_named))
+coded_dimensions =
+    coded× coded_pairs
+    (coded× (coded_option (coded_list (coded_option coded_path))) (coded_list coded_named))
 
 abbrev pub dimensions_of : NodeKind → Option Dimensions
 dimensions_of Group = None
@@ -45,7 +49,8 @@ same-kind Group = refl
 same-kind (Array shape names manifests) = refl
 
 abbrev pub coded_kind : Coded NodeKind
-coded_kind = code_by (Option Dimensions) (coded_option coded_dimensions) dimensions_of kind_of same-kind
+coded_kind =
+    code_by (Option Dimensions) (coded_option coded_dimensions) dimensions_of kind_of same-kind
 
 abbrev pub coded_row : Coded NodeRow
 coded_row =
@@ -56,7 +61,10 @@ coded_row =
     (λ _. refl)
 
 abbrev pub coded_file : Coded ManifestInfo
-coded_file = code_by (List ℕ × (ℕ × ℕ)) (coded× coded_path (coded× coded_ℕ coded_ℕ)) (λ file. (file.id.0, (file.size, file.refs))) (λ p. record { id = record { 0 = p.0 }; size = p.1.0; refs = p.1.1 }) (λ _. refl)
+coded_file =
+    code_by (List ℕ × (ℕ × ℕ)) (coded× coded_path (coded× coded_ℕ coded_ℕ))
+    (λ file. (file.id.0, (file.size, file.refs)))
+    (λ p. record { id = record { 0 = p.0 }; size = p.1.0; refs = p.1.1 }) (λ _. refl)
 
 -- ---- sources of ids
 abbrev pub Counts : Type 0
@@ -75,7 +83,9 @@ same-ids (Count c) = refl
 same-ids (Stream c) = refl
 
 abbrev pub coded_ids : Coded AnyIds
-coded_ids = code_by Counts (coded× (coded_option coded_path) (coded× coded_ℕ coded_ℕ)) counts (λ p. ids_by p.0 p.1) same-ids
+coded_ids =
+    code_by Counts (coded× (coded_option coded_path) (coded× coded_ℕ coded_ℕ)) counts
+    (λ p. ids_by p.0 p.1) same-ids
 
 -- ---- sessions
 -- the kind of an origin, the name of its ref, and the version
@@ -101,7 +111,9 @@ same-origin (ReadsTag name) = refl
 same-origin ReadsId = refl
 
 abbrev pub coded_origin : Coded Origin
-coded_origin = code_by Named (coded× coded_ℕ (coded× coded_path coded_ℕ)) named_of (λ p. origin_by p.0 p.1) same-origin
+coded_origin =
+    code_by Named (coded× coded_ℕ (coded× coded_path coded_ℕ)) named_of
+    (λ p. origin_by p.0 p.1) same-origin
 
 abbrev pub Opened : Type 0
 Opened = Origin × List ℕ
@@ -115,7 +127,18 @@ Changed = (List NodeRow × List ManifestInfo) × (Held Place × (Props × AnyIds
 abbrev pub coded_session : Coded SessionState
 coded_session =
     code_by (Opened × Changed)
-    (coded× (coded× coded_origin coded_path) (coded× (coded× (coded_list coded_row) (coded_list coded_file)) (coded× (coded_held coded_place) (coded× (coded_list (coded× coded_path coded_path)) coded_ids))))
+    (coded× (coded× coded_origin coded_path)
+    (coded× (coded× (coded_list coded_row) (coded_list coded_file))
+    (coded× (coded_held coded_place)
+    (coded× (coded_list (coded× coded_path coded_path)) coded_ids))))
     (λ s. ((s.origin, s.base.0), ((s.rows, s.files), (s.held, (s.props, s.ids)))))
-    (λ p. record { origin = p.0.0; base = record { 0 = p.0.1 }; rows = p.1.0.0; files = p.1.0.1; held = p.1.1.0; props = p.1.1.1.0; ids = p.1.1.1.1 })
+    (λ p. record {
+      origin = p.0.0;
+      base = record { 0 = p.0.1 };
+      rows = p.1.0.0;
+      files = p.1.0.1;
+      held = p.1.1.0;
+      props = p.1.1.1.0;
+      ids = p.1.1.1.1;
+    })
     (λ _. refl)

@@ -1,5 +1,6 @@
 -- The calls of a session.
-use Rattle.std.specs.Prelude.{◌≡◌, ◌⊎◌, ℕ, Bool, true, false, List, map, Option, Some, None, option_map, ok_or, Result, Ok, Err}
+use Rattle.std.specs.Prelude.{◌≡◌, ◌⊎◌, ℕ, Bool, true, false, List, map}
+use Rattle.std.specs.Prelude.{Option, Some, None, option_map, ok_or, Result, Ok, Err}
 use Rattle.std.specs.Borrow.{Bor}
 use Rattle.std.specs.BTreeMap.{insert_entry}
 use Rattle.std.specs.FinMap.{get, entries}
@@ -10,8 +11,8 @@ use Rattle.zarr_path.specs.Paths.{is_beneath}
 use Rattle.zarr_meta.specs.declared.faults.MetaFault.{MetaFault}
 use Rattle.zarr_meta.specs.declared.faults.MetaFault.TheVariants.{NodeType}
 use Rattle.zarr_meta.specs.declared.metas.Meta.{Meta}
-use Rattle.zarr_meta.specs.declared.views.View.{View}
-use Rattle.zarr_meta.specs.declared.views.View.TheVariants as view
+use Rattle.zarr_meta.specs.declared.views.MetaView.{MetaView}
+use Rattle.zarr_meta.specs.declared.views.MetaView.TheVariants as view
 use Rattle.zarr_meta.specs.Meta.{meta_of}
 use Rattle.zarr_tree.specs.Nodes.{Node, is_array}
 use Rattle.zarr_tree.specs.declared.edit.EditFault.{EditFault}
@@ -39,17 +40,17 @@ refusal_of_edit E.NoMemory = R.NoMemory
 
 -- ---- what a text says
 -- why a text that says this isn't the metadata of a group, of an array, or of any node
-abbrev pub group_fault : Result View MetaFault → Option MetaFault
+abbrev pub group_fault : Result MetaView MetaFault → Option MetaFault
 group_fault (Ok view.Group) = None
 group_fault (Ok (view.Array array)) = Some NodeType
 group_fault (Err fault) = Some fault
 
-abbrev pub array_fault : Result View MetaFault → Option MetaFault
+abbrev pub array_fault : Result MetaView MetaFault → Option MetaFault
 array_fault (Ok view.Group) = Some NodeType
 array_fault (Ok (view.Array array)) = None
 array_fault (Err fault) = Some fault
 
-abbrev pub node_fault : Result View MetaFault → Option MetaFault
+abbrev pub node_fault : Result MetaView MetaFault → Option MetaFault
 node_fault (Ok v) = None
 node_fault (Err fault) = Some fault
 
@@ -68,20 +69,27 @@ if_writes false r = Err R.ReadOnly
 
 -- ---- nodes that are added
 abbrev pub with_node : SessionState → (path text : List ℕ) → Id8 → SessionState
-with_node s path text id = record s { held = with_added s.held path (record { id = id; text = text }); ids = after8 s.ids }
+with_node s path text id = record s {
+  held = with_added s.held path (record { id = id; text = text });
+  ids = after8 s.ids;
+}
 
-abbrev pub drawn_node : SessionState → (path text : List ℕ) → Option Id8 → Result (Id8 × SessionState) Refusal
+abbrev pub drawn_node : SessionState → (path text : List ℕ) → Option Id8
+    → Result (Id8 × SessionState) Refusal
 drawn_node s path text None = Err R.IdsSpent
 drawn_node s path text (Some id) = Ok (id, with_node s path text id)
 
--- the session with one more node under the next id drawn, and this id, or the first refusal: those of the edit on its
--- tree, IdsSpent
+-- the session with one more node under the next id drawn, and this id, or the first refusal: those
+-- of the edit on its tree, IdsSpent
 abbrev pub entered : SessionState → (path text : List ℕ) → Result (Id8 × SessionState) Refusal
-entered s path text = unless_refused (add_refusal (nodes_seen s) path) (drawn_node s path text (drawn8 s.ids))
+entered s path text =
+    unless_refused (add_refusal (nodes_seen s) path) (drawn_node s path text (drawn8 s.ids))
 
 -- the same, but ReadOnly comes before, and then BadMeta where this tells a fault of the text
-unfoldable pub added : (Result View MetaFault → Option MetaFault) → SessionState → (path text : List ℕ) → Result (Id8 × SessionState) Refusal
-added fault s path text = if_writes (writes s) (unless_bad (fault (meta_of text)) (entered s path text))
+unfoldable pub added : (Result MetaView MetaFault → Option MetaFault) → SessionState
+    → (path text : List ℕ) → Result (Id8 × SessionState) Refusal
+added fault s path text =
+    if_writes (writes s) (unless_bad (fault (meta_of text)) (entered s path text))
 
 abbrev pub group_added : SessionState → (path text : List ℕ) → Result (Id8 × SessionState) Refusal
 group_added = added group_fault
@@ -94,20 +102,25 @@ abbrev pub node_added : SessionState → (path text : List ℕ) → Result (Id8 
 node_added = added node_fault
 
 -- ---- other metadata, and nodes that are dropped
-abbrev pub with_text : SessionState → (path text : List ℕ) → SessionState
-with_text s path text = record s { held = with_text_at s.held (base_nodes s) path text }
+abbrev pub text_changed : SessionState → (path text : List ℕ) → SessionState
+text_changed s path text = record s { held = with_text_at s.held (base_nodes s) path text }
 
--- the session in which the node at a path has another text, or the first refusal: ReadOnly, BadMeta, those of the edit
--- on its tree
+-- the session in which the node at a path has another text, or the first refusal: ReadOnly,
+-- BadMeta, those of the edit on its tree
 unfoldable pub meta_set : SessionState → (path text : List ℕ) → Result SessionState Refusal
-meta_set s path text = if_writes (writes s) (unless_bad (node_fault (meta_of text)) (unless_refused (text_refusal (nodes_seen s) path text) (Ok (with_text s path text))))
+meta_set s path text =
+    if_writes (writes s)
+    (unless_bad (node_fault (meta_of text))
+    (unless_refused (text_refusal (nodes_seen s) path text) (Ok (text_changed s path text))))
 
-abbrev pub without : SessionState → (path : List ℕ) → SessionState
-without s path = record s { held = without_node s.held (base_nodes s) path }
+abbrev pub node_gone : SessionState → (path : List ℕ) → SessionState
+node_gone s path = record s { held = without_node s.held (base_nodes s) path }
 
--- the session without the node at a path and all beneath it, or the first refusal: ReadOnly, that of the edit on its tree
+-- the session without the node at a path and all beneath it, or the first refusal:
+-- ReadOnly, that of the edit on its tree
 unfoldable pub node_dropped : SessionState → (path : List ℕ) → Result SessionState Refusal
-node_dropped s path = if_writes (writes s) (unless_refused (drop_refusal (nodes_seen s) path) (Ok (without s path)))
+node_dropped s path =
+    if_writes (writes s) (unless_refused (drop_refusal (nodes_seen s) path) (Ok (node_gone s path)))
 
 -- ---- properties of the snapshot to come
 abbrev pub with_prop : SessionState → (name value : List ℕ) → SessionState
@@ -117,9 +130,12 @@ abbrev pub unless_unfit : {A : Type 0} → Option PropFault → Result A Refusal
 unless_unfit None r = r
 unless_unfit (Some fault) r = Err (R.BadProp fault)
 
--- the session with one more property of the snapshot that it commits, or the first refusal: ReadOnly, BadProp
+-- the session with one more property of the snapshot that it commits, or the
+-- first refusal: ReadOnly, BadProp
 unfoldable pub prop_added : SessionState → (name value : List ℕ) → Result SessionState Refusal
-prop_added s name value = if_writes (writes s) (unless_unfit (prop_fault s.props name value) (Ok (with_prop s name value)))
+prop_added s name value =
+    if_writes (writes s)
+    (unless_unfit (prop_fault s.props name value) (Ok (with_prop s name value)))
 
 -- ---- what the calls answer and leave
 -- nothing changed but that one id may have been drawn
@@ -127,13 +143,15 @@ abbrev pub SameOrDrawn : SessionState → SessionState → Type 0
 SameOrDrawn old new = (new ≡ old) ⊎ (new ≡ record old { ids = after8 old.ids })
 
 -- a node was added, and its id is answered; or this was refused, and the session is as before
-abbrev pub Adds : (expected : Result (Id8 × SessionState) Refusal) → SessionState → Result Id8 Refusal → SessionState → Type 0
+abbrev pub Adds : (expected : Result (Id8 × SessionState) Refusal) → SessionState
+    → Result Id8 Refusal → SessionState → Type 0
 Adds expected old (Ok id) new = expected ≡ Ok (id, new)
 Adds expected old (Err R.NoMemory) new = SameOrDrawn old new
 Adds expected old (Err refusal) new = (expected ≡ Err refusal) × (new ≡ old)
 
 -- the session was changed; or this was refused, and it is as before, as where there was no memory
-abbrev pub Leaves : (expected : Result SessionState Refusal) → SessionState → Result (Unit {0}) Refusal → SessionState → Type 0
+abbrev pub Leaves : (expected : Result SessionState Refusal) → SessionState
+    → Result (Unit {0}) Refusal → SessionState → Type 0
 Leaves expected old (Ok done) new = expected ≡ Ok new
 Leaves expected old (Err R.NoMemory) new = new ≡ old
 Leaves expected old (Err refusal) new = (expected ≡ Err refusal) × (new ≡ old)
@@ -156,7 +174,8 @@ listed s path = if_there (get (nodes_seen s) path) (beneath s path)
 
 -- the text of the node at a path, or NoNode
 abbrev pub text_at : SessionState → List ℕ → Result (List ℕ) Refusal
-text_at s path = ok_or (option_map (λ (n : Node). n.text) (get (nodes_seen s) path)) (R.Edit E.NoNode)
+text_at s path =
+    ok_or (option_map (λ (n : Node). n.text) (get (nodes_seen s) path)) (R.Edit E.NoNode)
 
 -- the call found this text, or was refused
 abbrev pub text_found : Result (Bor Meta) Refusal → Result (List ℕ) Refusal

@@ -1,6 +1,9 @@
--- The machine that reads a chunk: it gets the manifests that may have it, one after another, and then its object.
+-- The machine that reads a chunk: it gets the manifests that may have it, one
+-- after another, and then its object.
 use Rattle.std.specs.Prelude.{◌≡◌, ℕ, ◌+◌, ◌-◌, ◌≤◌, ◌^◌, List, ◌∷◌, length, drop, Result, Ok, Err}
 use Rattle.ice_ids.specs.declared.Id8.{Id8}
+use Rattle.zarr_tree.specs.declared.edit.EditFault.{EditFault}
+use Rattle.zarr_changes.specs.declared.chunks.ChunkAt.{ChunkAt}
 use Rattle.store_api.specs.declared.machines.Refusal.{Refusal}
 use Rattle.store_api.specs.declared.machines.Refusal.TheVariants.{NoMemory}
 use Rattle.store_api.specs.Program.{Done, IsAsk}
@@ -12,6 +15,7 @@ use Rattle.session.specs.declared.getting.GetChunk.{GetChunk}
 use Rattle.session.specs.declared.reading.Reading.{Reading}
 use Rattle.session.specs.declared.reading.Reading.TheVariants.{Manifest, Object, Ended}
 use Rattle.session.specs.Sessions.{SessionState}
+use Rattle.session.specs.Editing.{refusal_of_edit}
 use Rattle.session.specs.Chunks.{read_listed, read_object}
 
 -- this manifest, and then those from a number on; or the object
@@ -42,11 +46,19 @@ abbrev pub GetRefused : Program Value → (old back : SessionState) → Refusal 
 GetRefused p old back NoMemory = back ≡ old
 GetRefused p old back why = (p ≡ Done (Err why)) × (back ≡ old)
 
--- the chunk was read without any operation; or a machine has the program to run, and the session; or this was refused
-abbrev pub Gets : (program : Program Value) → SessionState → Result Getting (SessionState × Refusal) → Type 0
-Gets p s (Ok (Ready t value)) = (p ≡ Done (Ok value)) × (t ≡ s)
-Gets p s (Ok (Again m)) = (get_rest m ≡ p) × IsAsk p × (get_session m ≡ s)
-Gets p s (Err refused) = GetRefused p s refused.0 refused.1
+-- the chunk was read without any operation; or a machine has the program to run, and
+-- the session; or this was refused
+abbrev pub GetBegun : (program : Program Value) → SessionState
+    → Result Getting (SessionState × Refusal) → Type 0
+GetBegun p s (Ok (Ready t value)) = (p ≡ Done (Ok value)) × (t ≡ s)
+GetBegun p s (Ok (Again m)) = (get_rest m ≡ p) × IsAsk p × (get_session m ≡ s)
+GetBegun p s (Err refused) = GetRefused p s refused.0 refused.1
+
+-- what refuses a read takes no memory, so it is told
+abbrev pub GetsOutright : Result ChunkAt EditFault → SessionState
+    → Result Getting (SessionState × Refusal) → Type 0
+GetsOutright (Ok found) s result = Unit {0}
+GetsOutright (Err fault) s result = result ≡ Err (s, refusal_of_edit fault)
 
 -- a machine has so few steps left
 abbrev pub IsShort : Getting → Type 0

@@ -1,4 +1,5 @@
--- The program of an opening: it gets what names a snapshot, if that is a ref, and then the snapshot.
+-- The program of an opening: it gets what names a snapshot, if that
+-- is a ref, and then the snapshot.
 use Rattle.std.specs.Prelude.{ℕ, ◌+◌, if◌then◌else◌, Bool, [], Option, Some, None, Ok, Err}
 use Rattle.ice_ids.specs.declared.drawing.AnyIds.{AnyIds}
 use Rattle.snapshot_file.specs.declared.snapshot.SnapshotFile.{SnapshotFile}
@@ -29,9 +30,11 @@ pub record Asked : Type 0 where
 abbrev pub of_branch : (writes : Bool) → Tip → Origin
 of_branch writes tip = if writes then Writes tip else ReadsBranch tip
 
--- what named the base: a branch at the version at which it was read, a tag, or the snapshot's own id
+-- what named the base: a branch at the version at which it was read,
+-- a tag, or the snapshot's own id
 abbrev pub origin_named : (writes : Bool) → At → Option Version → Origin
-origin_named writes (At.Branch branch) (Some version) = of_branch writes (record { branch = branch; version = version })
+origin_named writes (At.Branch branch) (Some version) =
+    of_branch writes (record { branch = branch; version = version })
 origin_named writes (At.Branch branch) None = ReadsId
 origin_named writes (At.Tag tag) version = ReadsTag tag
 origin_named writes (At.Snapshot id) version = ReadsId
@@ -41,7 +44,15 @@ origin_for a named = origin_named a.writes a.at named.version
 
 -- the session that begins at the snapshot that was named
 abbrev pub begun : Asked → Named → SnapshotFile → SessionState
-begun a named snap = record { origin = origin_for a named; base = named.id; rows = snap.nodes; files = snap.manifest_files; held = nothing; props = []; ids = a.ids }
+begun a named snap = record {
+  origin = origin_for a named;
+  base = named.id;
+  rows = snap.nodes;
+  files = snap.manifest_files;
+  held = nothing;
+  props = [];
+  ids = a.ids;
+}
 
 -- gets the snapshot that was named
 abbrev pub base_program : Asked → Named → Program SessionState

@@ -19,8 +19,9 @@ use Rattle.session.specs.declared.origin.Tip.{Tip}
 use Rattle.session.specs.declared.origin.Origin.{Origin}
 use Rattle.session.specs.declared.origin.Origin.TheVariants.{Writes, ReadsBranch, ReadsTag, ReadsId}
 
--- What named a session's base, and whether it writes; the snapshot that is its base, with its rows and manifests; what was changed of it; the
--- properties of the snapshot that it commits; and the ids to draw.
+-- What named a session's base, and whether it writes; the snapshot that is its base,
+-- with its rows and manifests; what was changed of it; the properties of the snapshot
+-- that it commits; and the ids to draw.
 pub record SessionState : Type 0 where
   pub origin : Origin
   pub base : Id12
@@ -49,7 +50,8 @@ abbrev pub tip_version : Option Tip → ℕ
 tip_version None = 0
 tip_version (Some tip) = tip.version.0
 
--- its branch, and the version at which that named its base (where no branch did, nothing asks for them)
+-- its branch, and the version at which that named its base (where no
+-- branch did, nothing asks for them)
 abbrev pub branch_of : SessionState → List ℕ
 branch_of s = tip_branch (tip_of s)
 
@@ -83,7 +85,8 @@ base_nodes s = nodes_in s.rows
 abbrev pub nodes_seen : SessionState → FinMap path_cmp Node
 nodes_seen s = nodes_over s.held (base_nodes s)
 
--- by what was put: the tree of the base, the changes, and the tree that a session's reads see, its base under its changes
+-- by what was put: the tree of the base, the changes, and the tree that a session's reads
+-- see, its base under its changes
 abbrev pub base_tree : Puts → SessionState → Tree
 base_tree puts s = tree_under puts s.rows
 
@@ -94,5 +97,12 @@ abbrev pub overlay : Puts → SessionState → Tree
 overlay puts s = apply (changes_in puts s) (base_tree puts s)
 
 -- a session on another snapshot, which its branch names from this version on, with these changes
-abbrev pub moved_to : SessionState → Id12 → (version : ℕ) → SnapshotFile → Held Place → SessionState
-moved_to s id version snap held = record s { origin = origin_at version s.origin; base = id; rows = snap.nodes; files = snap.manifest_files; held = held }
+abbrev pub rebased_to : SessionState → Id12 → (version : ℕ) → SnapshotFile
+    → Held Place → SessionState
+rebased_to s id version snap held = record s {
+  origin = origin_at version s.origin;
+  base = id;
+  rows = snap.nodes;
+  files = snap.manifest_files;
+  held = held;
+}

@@ -15,7 +15,7 @@ use crate::Session;
 use changed_snapshot::{NewList, Stamp, write_over};
 use flat_tables::WriteFault;
 use ice_base::{Bytes, Text};
-use ice_ids::{Id8, Id12, Ids};
+use ice_ids::{Id8, Id12};
 use ice_items::Items;
 use manifest_file::Place;
 use std::alloc::AllocError;
@@ -90,6 +90,6 @@ impl Session {
         ensures drawn { result ≡ drawn12 self.old.ids }
         ensures after { self.new ≡ record self.old { ids = after12 self.old.ids } }
     {
-        self.ids.next12()
+        self.ids.next12(self.alloc)
     }
 }

@@ -7,8 +7,9 @@ ghost use Rattle.session.specs.inside.Reads.{Reads};
 
 use crate::Session;
 use ice_ids::{Id8, Ids};
+use kept_ids::KeptIds;
 use store_api::Refusal;
-use zarr_meta::{MetaFault, SharedMeta, View};
+use zarr_meta::{MetaFault, MetaView, SharedMeta};
 use zarr_path::Path;
 use zarr_tree::EditFault;
 
@@ -49,8 +50,8 @@ impl Session {
     {
         let meta = self.read_node(text)?;
         match meta.view {
-            View::Group => Ok(meta),
-            View::Array(_) => {
+            MetaView::Group => Ok(meta),
+            MetaView::Array(_) => {
                 drop(meta);
                 Err(Refusal::BadMeta(MetaFault::NodeType))
             }
@@ -64,11 +65,11 @@ impl Session {
     {
         let meta = self.read_node(text)?;
         match meta.view {
-            View::Group => {
+            MetaView::Group => {
                 drop(meta);
                 Err(Refusal::BadMeta(MetaFault::NodeType))
             }
-            View::Array(_) => Ok(meta),
+            MetaView::Array(_) => Ok(meta),
         }
     }
 
@@ -88,7 +89,7 @@ impl Session {
     fn add(&mut self, path: &Path, meta: SharedMeta) -> Result<Id8, Refusal>
         ensures { Adds (entered self.old path.now meta.text) self.old result self.new }
     {
-        let mut ids = self.ids;
+        let mut ids = self.ids.ids();
         let Some(id) = ids.next8() else {
             drop(meta);
             return Err(self.spent(path));
@@ -96,7 +97,7 @@ impl Session {
         if let Err(fault) = self.changes.add(self.alloc, &self.loaded, path, id, meta) {
             return Err(refusal_of_edit(fault));
         }
-        self.ids = ids;
+        self.ids = KeptIds::new(ids);
         Ok(id)
     }
 

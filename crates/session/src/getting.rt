@@ -3,12 +3,14 @@
 ghost use Rattle.std.specs.Prelude.{◌≡◌, ◌<◌, ◌+◌, ◌-◌, ◌^◌, ℕ, List, ◌∷◌, length, drop, slice_get, IfErr, IfOk, IfSome};
 ghost use Rattle.ice_ids.specs.declared.Id8.{Id8 as TheNode};
 ghost use Rattle.zarr_tree.specs.Held.{entry_in};
+ghost use Rattle.zarr_changes.specs.Sets.{chunk_found};
 ghost use Rattle.held_manifest.specs.Places.{place_seen};
 ghost use Rattle.store_api.specs.Program.{IsAsk, Steps};
 ghost use Rattle.store_api.specs.Driving.{Awaits, Took};
+ghost use Rattle.session.specs.Sessions.{nodes_seen};
 ghost use Rattle.session.specs.Chunks.{get_program, read_at, read_listed, read_object, read_own, read_place};
 ghost use Rattle.repo_read.specs.Programs.{MayRefuseObject};
-ghost use Rattle.session.specs.Getting.{get_rest, get_left, get_session, Gets, IsShort};
+ghost use Rattle.session.specs.Getting.{get_rest, get_left, get_session, GetBegun, GetsOutright, IsShort};
 ghost use Rattle.session.specs.inside.Working.{Begins, LandsCalmly};
 
 use crate::Session;
@@ -111,7 +113,7 @@ impl Session {
         index: &Index,
         at: ChunkAt,
     ) -> Result<Getting, (Session, Refusal)>
-        ensures read { Gets
+        ensures read { GetBegun
             (read_at self path.now index.now at (entry_in self.held.chunks at.node index.now)) self
             result }
         ensures few { IfOk result IsShort }
@@ -139,9 +141,12 @@ impl Session {
 
     /// Reads a chunk: by the session's own entry, else by the first of the base's manifests that has it. A chunk that the session
     /// has is answered at once, as is one that no manifest may have; else a machine gets what is wanting. It is refused by
-    /// `NoNode`, `NotArray`, `OutOfGrid` or `NoMemory`, the first in this order, and the session comes back as it was.
+    /// `NoNode`, `NotArray` or `OutOfGrid`, the first in this order, which take no memory, or by `NoMemory`, and the session
+    /// comes back as it was.
     pub fn get_chunk(self, path: &Path, index: &Index) -> Result<Getting, (Session, Refusal)>
-        ensures read { Gets (get_program self path.now index.now) self result }
+        ensures read { GetBegun (get_program self path.now index.now) self result }
+        ensures outright { GetsOutright
+            (chunk_found (nodes_seen self) path.now index.now) self result }
         ensures few { IfOk result IsShort }
     {
         match self.changes.find_chunk(&self.loaded, path, index) {

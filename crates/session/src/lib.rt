@@ -4,8 +4,8 @@
 mod chunks;
 mod committing;
 mod editing;
+mod filling;
 mod getting;
-mod moving;
 mod open;
 mod opening;
 mod origin;
@@ -13,6 +13,7 @@ mod placing;
 mod properties;
 mod putting;
 mod reading;
+mod rebasing;
 mod rows;
 mod saving;
 mod seeing;

@@ -1,6 +1,6 @@
 //! Reads of nodes.
 
-ghost use Rattle.std.specs.Prelude.{◌≡◌, IfOk, map, option_map};
+ghost use Rattle.std.specs.Prelude.{◌≡◌, Err, IfOk, IsOk, map, option_map};
 ghost use Rattle.std.specs.Option.{option_copied};
 ghost use Rattle.zarr_tree.specs.Held.{entry_in};
 ghost use Rattle.session.specs.Arrays.{array_at, array_told};
@@ -11,7 +11,7 @@ use ice_ids::Id8;
 use manifest_file::Place;
 use std::alloc::{AllocError, Global};
 use store_api::Refusal;
-use zarr_meta::{ArrayView, Meta, View};
+use zarr_meta::{ArrayView, Meta, MetaView};
 use zarr_path::{Index, Path};
 use zarr_tree::EditFault;
 
@@ -56,11 +56,11 @@ impl Session {
             return Err(Refusal::Edit(EditFault::NoNode));
         };
         match &found.meta.view {
-            View::Array(array) => Ok(ArrayAt {
+            MetaView::Array(array) => Ok(ArrayAt {
                 node: found.id,
                 array,
             }),
-            View::Group => Err(Refusal::Edit(EditFault::NotArray)),
+            MetaView::Group => Err(Refusal::Edit(EditFault::NotArray)),
         }
     }
 
@@ -75,7 +75,8 @@ impl Session {
     /// The nodes beneath a path, in the order of the paths' bytes; `NoNode` where the tree has no
     /// node at the path, or `NoMemory`.
     pub fn list_beneath(&self, path: &Path) -> Result<Listings, Refusal>
-        ensures { Answers (listed self.now path.now) result }
+        ensures told { Answers (listed self.now path.now) result }
+        ensures memory { result ≡ Err Refusal.NoMemory → IsOk (listed self.now path.now) }
     {
         if self.changes.lookup(&self.loaded, path.as_str()).is_none() {
             return Err(Refusal::Edit(EditFault::NoNode));

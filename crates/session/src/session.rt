@@ -7,6 +7,7 @@ use crate::origin::Origin;
 use ice_base::RefName;
 use ice_ids::{AnyIds, Id12};
 use ice_items::Items;
+use kept_ids::KeptIds;
 use repo_objects::Loaded;
 use snapshot_file::Props;
 use std::alloc::Global;
@@ -37,7 +38,7 @@ pub struct Session {
     pub(crate) changes: ChangeSet,
     pub(crate) reader: MetaReader,
     pub(crate) props: Props,
-    pub(crate) ids: AnyIds,
+    pub(crate) ids: KeptIds,
 }
 
 impl Model for Session {
@@ -92,7 +93,7 @@ impl Session {
             changes: ChangeSet::new(alloc),
             reader: MetaReader::new(),
             props: Props::new(alloc),
-            ids,
+            ids: KeptIds::new(ids),
         }
     }
 
@@ -143,12 +144,14 @@ impl Session {
             changes,
             reader,
             props,
+            ids,
             ..
         } = self;
         drop(loaded);
         drop(changes);
         drop(reader);
         drop(props);
+        drop(ids);
         match origin {
             Origin::Writes(tip) => tip.branch,
             Origin::ReadsBranch(_) | Origin::ReadsTag(_) | Origin::ReadsId => unreachable!(),
@@ -166,6 +169,6 @@ impl Session {
     pub fn ids(&self) -> AnyIds
         ensures { result ≡ self.now.ids }
     {
-        self.ids
+        self.ids.ids()
     }
 }

@@ -1,28 +1,25 @@
 //! Setting chunks.
 
-ghost use Rattle.std.specs.Prelude.{◌≡◌, ◌<◌, nat_le, length, true, None, Some, IfErr, IfOk, IsSome, IsTrue, OnErr};
+ghost use Rattle.std.specs.Prelude.{◌≡◌, ◌<◌, length, Ok, Some, IfErr, IfOk, IsSome, IsTrue, OnErr, OnOk};
 ghost use Rattle.ice_ids.specs.Drawing.{drawn12};
-ghost use Rattle.manifest_file.specs.declared.manifest.Place.TheVariants.{Object as Is_object};
-ghost use Rattle.store_api.specs.Program.{IsAsk, IsDone, Steps, NextIsPolite};
+ghost use Rattle.manifest_file.specs.declared.manifest.Place.TheVariants.{Inline as Is_inline, Object as Is_object};
+ghost use Rattle.store_api.specs.Program.{Done, IsAsk, IsDone, Steps, NextIsPolite};
 ghost use Rattle.store_api.specs.Driving.{Awaits, Took};
-ghost use Rattle.zarr_changes.specs.Sets.{length_of, set_refusal};
 ghost use Rattle.session.specs.Editing.{Leaves};
-ghost use Rattle.session.specs.Sessions.{nodes_seen};
-ghost use Rattle.session.specs.Chunks.{after_object, chunk_unset, most_inline, put_chunk, put_object, set_program, with_chunk};
-ghost use Rattle.session.specs.Setting.{set_rest, set_left, set_session, Sets, MayRefuseSet};
-ghost use Rattle.session.specs.inside.Working.{Edits, LandsCalmly};
+ghost use Rattle.session.specs.Chunks.{after_object, chunk_unset, set_program, with_chunk_of};
+ghost use Rattle.session.specs.Setting.{set_rest, set_left, set_session, SetBegun, MayRefuseSet};
+ghost use Rattle.session.specs.inside.Working.{LandsCalmly, put_chunk_of, put_object_of};
 
 use crate::Session;
 use crate::editing::refusal_of_edit;
 use crate::putting::Putting;
 use ice_base::Bytes;
-use ice_ids::{Id12, Ids};
+use ice_ids::{Id8, Id12};
 use manifest_file::Place;
 use std::alloc::{AllocError, Global};
 use std::mem;
 use store_api::{Key, Machine, New, Next, Payload, Refusal, Reply, Request, Store, Why, drive};
 use zarr_path::{Index, Path};
-use zarr_tree::EditFault;
 
 /// The longest chunk, in bytes, that stands in a manifest. (Own.)
 const MOST_INLINE: usize = 512;
@@ -40,77 +37,60 @@ pub enum Setting {
 /// the reply, and then the session is given out. It may answer `IdTaken`, `StoreFault` or `NoMemory` instead.
 #[derive(Drop)]
 pub struct SetChunk {
-    path: Path,
+    node: Id8,
     index: Index,
     bytes: Bytes,
     id: Id12,
     state: Putting,
 }
 
-/// Copies of a chunk's place and of its bytes.
-fn copies(
-    alloc: Global,
-    path: &Path,
-    index: &Index,
-    bytes: &[u8],
-) -> Result<(Path, Index, Bytes), AllocError>
-    ensures { IfOk result (λ held. held ≡ (path.now, index.now, bytes.now)) }
+/// Copies of a chunk's index and of its bytes.
+fn copies(alloc: Global, index: &Index, bytes: &[u8]) -> Result<(Index, Bytes), AllocError>
+    ensures { IfOk result (λ held. held ≡ (index.now, bytes.now)) }
 {
-    let path = path.copy(alloc)?;
     let index = index.copy(alloc)?;
     let bytes = Bytes::of(alloc, bytes)?;
-    Ok((path, index, bytes))
+    Ok((index, bytes))
 }
 
 impl Session {
-    /// Enters where a chunk is.
-    fn enter(&mut self, path: &Path, index: &Index, place: Place) -> Result<(), EditFault>
-        ensures { Edits (set_refusal (nodes_seen self.old) path.now index.now (length_of place))
-            (with_chunk self.old path.now index.now place) self.old result self.new }
+    /// Enters where a chunk of a node is. Whether the tree has such an array isn't asked.
+    fn enter(&mut self, node: Id8, index: Index, place: Place) -> Result<(), AllocError>
+        ensures ok { OnOk result (self.new ≡ with_chunk_of self.old node index place) }
+        ensures err { OnErr result (self.new ≡ self.old) }
     {
-        self.changes
-            .set_chunk(self.alloc, &self.loaded, path, index, place)
+        self.changes.enter_chunk(self.alloc, node, index, place)
     }
 
     /// Sets a chunk that stands in the session.
     fn set_inline(
         mut self,
-        path: &Path,
-        index: &Index,
-        bytes: &[u8],
+        node: Id8,
+        index: Index,
+        bytes: Bytes,
     ) -> Result<Setting, (Session, Refusal)>
-        requires short { nat_le (length bytes.now) most_inline ≡ true }
-        requires allowed { set_refusal (nodes_seen self) path.now index.now (length bytes.now)
-            ≡ None }
-        ensures { Sets (put_chunk self path.now index.now bytes.now) self result }
+        ensures { SetBegun (Done (Ok (with_chunk_of self node index (Is_inline bytes)))) self result }
     {
-        let Ok(held) = Bytes::of(self.alloc, bytes) else {
-            return Err((self, Refusal::NoMemory));
-        };
-        match self.enter(path, index, Place::Inline(held)) {
+        match self.enter(node, index, Place::Inline(bytes)) {
             Ok(()) => Ok(Setting::Ready(self)),
-            Err(fault) => Err((self, refusal_of_edit(fault))),
+            Err(_) => Err((self, Refusal::NoMemory)),
         }
     }
 
     /// Sets a chunk that is put as an object.
     fn set_object(
         mut self,
-        path: &Path,
-        index: &Index,
-        bytes: &[u8],
+        node: Id8,
+        index: Index,
+        bytes: Bytes,
     ) -> Result<Setting, (Session, Refusal)>
-        ensures { Sets (put_object self path.now index.now bytes.now (drawn12 self.ids)) self
-            result }
+        ensures { SetBegun (put_object_of self node index bytes (drawn12 self.ids)) self result }
     {
-        let Some(id) = self.ids.next12() else {
+        let Some(id) = self.ids.next12(self.alloc) else {
             return Err((self, Refusal::IdsSpent));
         };
-        let Ok((path, index, bytes)) = copies(self.alloc, path, index, bytes) else {
-            return Err((self, Refusal::NoMemory));
-        };
         Ok(Setting::Again(SetChunk {
-            path,
+            node,
             index,
             bytes,
             id,
@@ -118,29 +98,46 @@ impl Session {
         }))
     }
 
+    /// Sets a chunk of a node. One of at most 512 bytes stands in the session; of a longer one the object is put. Whether the
+    /// tree takes the chunk isn't asked.
+    pub(crate) fn set_held(
+        self,
+        node: Id8,
+        index: Index,
+        bytes: Bytes,
+    ) -> Result<Setting, (Session, Refusal)>
+        ensures { SetBegun (put_chunk_of self node index bytes) self result }
+    {
+        if bytes.len() <= MOST_INLINE {
+            self.set_inline(node, index, bytes)
+        } else {
+            self.set_object(node, index, bytes)
+        }
+    }
+
     /// Sets a chunk. One of at most 512 bytes stands in the session; of a longer one the object is put, by a machine. It is
-    /// refused by `ReadOnly`, `NoNode`, `NotArray`, `OutOfGrid`, `ChunkLength` (with how many bytes a chunk has), `IdsSpent` or
-    /// `NoMemory`, the first in this order, and the session comes back as it was, apart from one id that may have been drawn
-    /// where memory ran out.
+    /// refused by `ReadOnly`, `NoNode`, `NotArray`, `OutOfGrid`, `ChunkLength` (with how many bytes a chunk has) or `IdsSpent`,
+    /// the first in this order, or by `NoMemory`, and the session comes back as it was, apart from one id that may have been
+    /// drawn where memory ran out.
     pub fn set_chunk(
         self,
         path: &Path,
         index: &Index,
         bytes: &[u8],
     ) -> Result<Setting, (Session, Refusal)>
-        ensures { Sets (set_program self path.now index.now bytes.now) self result }
+        ensures { SetBegun (set_program self path.now index.now bytes.now) self result }
     {
         if !self.writes() {
             return Err((self, Refusal::ReadOnly));
         }
         let len = bytes.len() as u64;
-        if let Err(fault) = self.changes.may_set(&self.loaded, path, index, len) {
-            return Err((self, refusal_of_edit(fault)));
-        }
-        if bytes.len() <= MOST_INLINE {
-            self.set_inline(path, index, bytes)
-        } else {
-            self.set_object(path, index, bytes)
+        let node = match self.changes.array_to_set(&self.loaded, path, index, len) {
+            Ok(node) => node,
+            Err(fault) => return Err((self, refusal_of_edit(fault))),
+        };
+        match copies(self.alloc, index, bytes) {
+            Ok((index, bytes)) => self.set_held(node, index, bytes),
+            Err(_) => Err((self, Refusal::NoMemory)),
         }
     }
 
@@ -207,7 +204,7 @@ impl SetChunk {
     fn on_put(&mut self, mut session: Session, new: New) -> Result<Next<Session>, Refusal>
         requires { self.old.state ≡ Putting.Ended }
         ensures took { LandsCalmly
-            (after_object (with_chunk session self.old.path self.old.index
+            (after_object (with_chunk_of session self.old.node self.old.index
             (Is_object self.old.id 0 (length self.old.bytes))) self.old.id (Reply.New new))
             (set_rest self.new) result }
         ensures falls { set_left self.new < 1 }
@@ -223,7 +220,9 @@ impl SetChunk {
             offset: 0,
             length: self.bytes.len() as u64,
         };
-        match session.enter(&self.path, &self.index, place) {
+        // The index is needed no more.
+        let index = mem::replace(&mut self.index, Index::from_parts(Vec::new(session.alloc)));
+        match session.enter(self.node, index, place) {
             Ok(()) => Ok(Next::Ready(session)),
             Err(_) => {
                 self.state.hold(session);

@@ -1,5 +1,7 @@
--- That a settling tells whether the commit was done. No machine and no program is named here. (Own.)
-use Rattle.std.specs.Prelude.{◌≡◌, ◌≢◌, ◌⊎◌, ℕ, true, Bool, List, [], ◌∷◌, ◌++◌, length, None, Some, Ok}
+-- That a settling tells whether the commit was done. No machine and
+-- no program is named here. (Own.)
+use Rattle.std.specs.Prelude.{◌≡◌, ◌≢◌, ◌⊎◌, ℕ, true, Bool}
+use Rattle.std.specs.Prelude.{List, [], ◌∷◌, ◌++◌, length, None, Some, Ok}
 use Rattle.std.specs.List.{All}
 use Rattle.ice_ids.specs.declared.Id12.{Id12}
 use Rattle.snapshot_file.specs.declared.snapshot.SnapshotFile.{SnapshotFile}
@@ -22,25 +24,34 @@ use Rattle.settle.specs.Telling.{SettleSays, SettleTells}
 
 -- ---- what others do
 -- the event leaves what stands at the key as it was
-abbrev pub Leaves : Key → List Event → Event → Type 0
-Leaves key before event = found (before ++ event ∷ []) key ≡ found before key
+abbrev pub LeavesKey : Key → List Event → Event → Type 0
+LeavesKey key before event = found (before ++ event ∷ []) key ≡ found before key
 
 -- it is a put over of the branch for a commit, with a reference to this snapshot
 abbrev pub CommitsTo : (branch : List ℕ) → Id12 → Event → Type 0
-CommitsTo branch id event = (bytes : List ℕ) × (old : Version) × (event.op ≡ PutOver (Branch branch) bytes old Commit) × (ref_of bytes ≡ Some id)
+CommitsTo branch id event =
+    (bytes : List ℕ) × (old : Version) × (event.op ≡ PutOver (Branch branch) bytes old Commit)
+    × (ref_of bytes ≡ Some id)
 
--- It leaves the branch as it was, or commits to it: so it isn't reset nor removed. This snapshot is committed at this position alone.
+-- It leaves the branch as it was, or commits to it: so it isn't reset nor removed. This snapshot is
+-- committed at this position alone.
 abbrev pub CommitsAlone : (branch : List ℕ) → Id12 → (at : ℕ) → List Event → Event → Type 0
-CommitsAlone branch id at before event = Leaves (Branch branch) before event ⊎ ((new : Id12) × CommitsTo branch new event × (new ≡ id → length before ≡ at))
+CommitsAlone branch id at before event =
+    LeavesKey (Branch branch) before event
+    ⊎ ((new : Id12) × CommitsTo branch new event × (new ≡ id → length before ≡ at))
 
 -- where it is a put over of the snapshot, it leaves that as it was: so it doesn't cut it
 abbrev pub CutsNot : Id12 → List Event → Event → Type 0
-CutsNot id before event = (bytes : List ℕ) (old : Version) (why : Why) → event.op ≡ PutOver (Snapshot id) bytes old why → Leaves (Snapshot id) before event
+CutsNot id before event =
+    (bytes : List ℕ) (old : Version) (why : Why) → event.op ≡ PutOver (Snapshot id) bytes old why
+    → LeavesKey (Snapshot id) before event
 
 -- ---- the doubt
--- In the journal `known` the branch stood with a reference to the base, and the commit's snapshot wasn't put yet. Since then the client's own put
--- over of the branch for the commit, at the version that it had then, failed; it may have been done.
-pub record IsInDoubt (client : ℕ) (branch : List ℕ) (d : Doubt) (known start : List Event) : Type 0 where
+-- In the journal `known` the branch stood with a reference to the base, and the commit's snapshot
+-- wasn't put yet. Since then the client's own put over of the branch for the commit, at the version
+-- that it had then, failed; it may have been done.
+pub record IsInDoubt (client : ℕ) (branch : List ℕ) (d : Doubt)
+    (known start : List Event) : Type 0 where
   pub version : ℕ
   pub read : StandsAt known (Branch branch) version
   pub base : ref_of read.stored.bytes ≡ Some d.base
@@ -48,17 +59,20 @@ pub record IsInDoubt (client : ℕ) (branch : List ℕ) (d : Doubt) (known start
   pub bytes : List ℕ
   pub names : ref_of bytes ≡ Some d.snapshot
   pub done : Bool
-  pub own : HasOwn client (PutOver (Branch branch) bytes (version_at version) Commit) (Failed done) known start
+  pub own : HasOwn client (PutOver (Branch branch) bytes (version_at version) Commit)
+      (Failed done) known start
 
 -- it was done, and the branch stood at that version
-pub record TookEffect (client : ℕ) (branch : List ℕ) (d : Doubt) (known start : List Event) (doubt : IsInDoubt client branch d known start) : Type 0 where
+pub record TookEffect (client : ℕ) (branch : List ℕ) (d : Doubt) (known start : List Event)
+    (doubt : IsInDoubt client branch d known start) : Type 0 where
   pub done : doubt.done ≡ true
   pub stood : StandsAt doubt.own.before (Branch branch) doubt.version
 
 -- ---- its settling
--- The doubt was settled so, in a good journal that puts nothing again. Since the branch was read it was changed by commits alone, and by no other one with
--- this snapshot.
-pub record WasSettled (client : ℕ) (branch : List ℕ) (d : Doubt) (a : Settled) (known start journal : List Event) : Type 0 where
+-- The doubt was settled so, in a good journal that puts nothing again. Since the branch was read it
+-- was changed by commits alone, and by no other one with this snapshot.
+pub record WasSettled (client : ℕ) (branch : List ℕ) (d : Doubt) (a : Settled)
+    (known start journal : List Event) : Type 0 where
   pub good : IsGoodJournal journal
   pub once : IsOnce journal
   pub doubt : IsInDoubt client branch d known start
@@ -68,21 +82,35 @@ pub record WasSettled (client : ℕ) (branch : List ℕ) (d : Doubt) (a : Settle
   pub commits : Each (CommitsAlone branch d.snapshot (length doubt.own.before)) known since
 
 -- the snapshots that the settling read
-abbrev pub chain_of : (client : ℕ) (branch : List ℕ) (d : Doubt) (start : List Event) (a : Settled) (journal : List Event) → SettleSays client branch d start (Ok a) journal → List SnapshotFile
+abbrev pub chain_of : (client : ℕ) (branch : List ℕ) (d : Doubt)
+    (start : List Event) (a : Settled) (journal : List Event)
+    → SettleSays client branch d start (Ok a) journal → List SnapshotFile
 chain_of client branch d start Committed journal says = says.1.seen
 chain_of client branch d start NotCommitted journal says = says.2.seen
 chain_of client branch d start (NotAncestor head) journal says = says.seen
 
 -- since the branch was read none of them was cut
-abbrev pub NoneCut : (client : ℕ) (branch : List ℕ) (d : Doubt) (a : Settled) (known start journal : List Event) → WasSettled client branch d a known start journal → Type 0
-NoneCut client branch d a known start journal s = All (λ (f : SnapshotFile). Each (CutsNot f.id) known s.since) (chain_of client branch d start a journal s.tells.0)
+abbrev pub NoneCut : (client : ℕ) (branch : List ℕ) (d : Doubt)
+    (a : Settled) (known start journal : List Event)
+    → WasSettled client branch d a known start journal → Type 0
+NoneCut client branch d a known start journal s =
+    All (λ (f : SnapshotFile). Each (CutsNot f.id) known s.since)
+    (chain_of client branch d start a journal s.tells.0)
 
 -- ---- the law
--- `Committed` is told only where the put over took effect, whatever was cut; where none of the snapshots that were read was cut, also wherever it did.
--- So where another answer is told, that put over changed nothing.
+-- `Committed` is told only where the put over took effect, whatever was cut; where none of the
+-- snapshots that were read was cut, also wherever it did. So where another answer is told,
+-- that put over changed nothing.
 pub record DoubtLaw : Type 0 where
-  pub told : (client : ℕ) (branch : List ℕ) (d : Doubt) (a : Settled) (known start journal : List Event) (s : WasSettled client branch d a known start journal) → a ≡ Committed → TookEffect client branch d known start s.doubt
-  pub done : (client : ℕ) (branch : List ℕ) (d : Doubt) (a : Settled) (known start journal : List Event) (s : WasSettled client branch d a known start journal)
-      → NoneCut client branch d a known start journal s → TookEffect client branch d known start s.doubt → a ≡ Committed
-  pub nothing : (client : ℕ) (branch : List ℕ) (d : Doubt) (a : Settled) (known start journal : List Event) (s : WasSettled client branch d a known start journal)
-      → NoneCut client branch d a known start journal s → a ≢ Committed → (from : List Event) → ChangedOnce client from s.doubt.own.before s.doubt.own.event journal → ChangedNothing client from journal
+  pub told : (client : ℕ) (branch : List ℕ) (d : Doubt) (a : Settled)
+      (known start journal : List Event) (s : WasSettled client branch d a known start journal)
+      → a ≡ Committed → TookEffect client branch d known start s.doubt
+  pub done : (client : ℕ) (branch : List ℕ) (d : Doubt) (a : Settled)
+      (known start journal : List Event) (s : WasSettled client branch d a known start journal)
+      → NoneCut client branch d a known start journal s
+      → TookEffect client branch d known start s.doubt → a ≡ Committed
+  pub nothing : (client : ℕ) (branch : List ℕ) (d : Doubt) (a : Settled)
+      (known start journal : List Event) (s : WasSettled client branch d a known start journal)
+      → NoneCut client branch d a known start journal s → a ≢ Committed → (from : List Event)
+      → ChangedOnce client from s.doubt.own.before s.doubt.own.event journal
+      → ChangedNothing client from journal

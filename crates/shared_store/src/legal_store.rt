@@ -9,7 +9,7 @@ use store_api::{
     Base, Event, Gone, GoneAt, Got, Key, Listed, New, Op, Over, Part, Reply, StoreFault, Version,
     Why,
 };
-use turn_cell::Logged;
+use turn_cell::Journaled;
 
 /// A store whose journal, where the store tells it, is legal and polite. Contracts see it as the store.
 #[derive(Drop)]
@@ -28,7 +28,7 @@ impl<S: Base> Model for LegalStore<S> {
     ghost invariant = { λ h. S.tells ≡ true → IsGoodJournal (S.view h.store).seen };
 }
 
-impl<S: Base> Logged for LegalStore<S> {
+impl<S: Base> Journaled for LegalStore<S> {
     type Entry = Event;
 
     ghost journal = { λ store. told S.tells (S.view store).seen };

@@ -2,7 +2,7 @@
 ghost use Rattle.std.specs.Prelude.{◌≡◌, ◌<◌, ◌≤◌, true, false, IfOk, IfErr};
 ghost use Rattle.store_api.specs.Journal.{IsGoodJournal};
 ghost use Rattle.turn_cell.specs.Owners.{IsOwner, Adjoins, all_owners, lower_part, upper_part};
-ghost use Rattle.turn_cell.specs.Logs.{Follows, starting, joined};
+ghost use Rattle.turn_cell.specs.SeenJournals.{Follows, starting, joined};
 ghost use Rattle.turn_cell.specs.Passes.{known, IsPassOf};
 ghost use Rattle.shared_store.specs.Told.{told, client_of};
 

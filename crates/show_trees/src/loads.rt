@@ -6,14 +6,14 @@ use ice_ids::{Id8, Id12};
 use repo_objects::{Bad, Loaded, Unread, log_hold, ref_read};
 use show_files::{NoAnswer, push_props, tell_log};
 use std::alloc::{AllocError, Global};
-use zarr_meta::{MetaFault, View};
+use zarr_meta::{MetaFault, MetaView};
 use zarr_tree::{Found, TreeLike};
 
 /// What is told of a node that was found.
 pub fn node_told(alloc: Global, found: Found<'_>) -> Result<String, AllocError> {
     match &found.meta.view {
-        View::Group => format!(in alloc; "{} group", found.id),
-        View::Array(array) => {
+        MetaView::Group => format!(in alloc; "{} group", found.id),
+        MetaView::Array(array) => {
             let shape = array.shape.as_slice();
             format!(in alloc; "{} array {shape:?}", found.id)
         }

@@ -4,7 +4,7 @@ use json_words::read_value;
 use serde_json::Value;
 use show_files::{NoAnswer, fault_told, first_word, numbers_of, push_names};
 use std::alloc::{AllocError, Global};
-use zarr_meta::{ArrayView, IntKind, Meta, MetaFault, View};
+use zarr_meta::{ArrayView, IntKind, Meta, MetaFault, MetaView};
 
 /// That bytes are a JSON text, or why they are none.
 pub fn tell_json(alloc: Global, bytes: &[u8]) -> Result<String, NoAnswer> {
@@ -59,10 +59,10 @@ fn array_told(alloc: Global, array: &ArrayView) -> Result<String, AllocError> {
 }
 
 /// What metadata says.
-fn view_told(alloc: Global, view: &View) -> Result<String, AllocError> {
+fn view_told(alloc: Global, view: &MetaView) -> Result<String, AllocError> {
     match view {
-        View::Group => String::from_str(alloc, "group"),
-        View::Array(array) => array_told(alloc, array),
+        MetaView::Group => String::from_str(alloc, "group"),
+        MetaView::Array(array) => array_told(alloc, array),
     }
 }
 

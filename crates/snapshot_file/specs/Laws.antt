@@ -8,9 +8,12 @@ use Rattle.snapshot_file.specs.Layout.{snapshot_bytes, IsSnapshot, IsWritable}
 
 -- what a file of bytes stands for can be written
 pub record ReadLaw : Type 0 where
-  pub sized : (file : List ℕ) (s : SnapshotFile) → list_all (λ n. nat_lt n 256) file ≡ true → snapshot_of file ≡ Ok s → IsSnapshot s
+  pub sized : (file : List ℕ) (s : SnapshotFile) → list_all (λ n. nat_lt n 256) file ≡ true
+      → snapshot_of file ≡ Ok s → IsSnapshot s
   pub writable : (file : List ℕ) (s : SnapshotFile) → snapshot_of file ≡ Ok s → IsWritable s
   -- and what is written is read again
-  pub again : (s : SnapshotFile) → IsSnapshot s → IsWritable s → length (snapshot_bytes s) ≤ file_limit → snapshot_of (snapshot_bytes s) ≡ Ok s
+  pub again : (s : SnapshotFile) → IsSnapshot s → IsWritable s
+      → length (snapshot_bytes s) ≤ file_limit → snapshot_of (snapshot_bytes s) ≡ Ok s
   -- what is written is bytes
-  pub bytes : (s : SnapshotFile) → IsSnapshot s → list_all (λ n. nat_lt n 256) (snapshot_bytes s) ≡ true
+  pub bytes : (s : SnapshotFile) → IsSnapshot s
+      → list_all (λ n. nat_lt n 256) (snapshot_bytes s) ≡ true

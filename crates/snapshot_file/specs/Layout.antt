@@ -1,5 +1,6 @@
 -- The one file of a snapshot, and what can be written.
-use Rattle.std.specs.Prelude.{◌≡◌, ◌<◌, ◌≤◌, ◌^◌, ℕ, List, [], ◌∷◌, ◌++◌, length, map, true, Option, None, Some, IfSome}
+use Rattle.std.specs.Prelude.{◌≡◌, ◌<◌, ◌≤◌, ◌^◌, ℕ, List, [], ◌∷◌, ◌++◌}
+use Rattle.std.specs.Prelude.{length, map, true, Option, None, Some, IfSome}
 use Rattle.std.specs.List.{flat_map, AllByRecursion}
 use Rattle.std.specs.Int.{w32, w64, to_le_bytes}
 use Rattle.std.specs.Str.{IsUtf8}
@@ -11,7 +12,8 @@ use Rattle.file_fields.specs.Fields.{id8_part, id12_part, bytes_part}
 use Rattle.flat_tables.specs.declared.header.Kind.TheVariants as kinds
 use Rattle.flat_tables.specs.Header.{header}
 use Rattle.flat_tables.specs.Rows.{Ascends}
-use Rattle.flat_tables.specs.Layout.{Part, Block, zeros, scalar, offset_to, part_if, text_block, vector_block, tables_block, table_block, payload}
+use Rattle.flat_tables.specs.Layout.{Part, Block, zeros, scalar, offset_to, part_if, text_block}
+use Rattle.flat_tables.specs.Layout.{vector_block, tables_block, table_block, payload}
 use Rattle.snapshot_file.specs.declared.nodes.ManifestRef.{ManifestRef}
 use Rattle.snapshot_file.specs.declared.nodes.NodeKind.{NodeKind}
 use Rattle.snapshot_file.specs.declared.nodes.NodeKind.TheVariants.{Group, Array}
@@ -59,7 +61,8 @@ shape_part shape = offset_to (vector_block 8 (length shape) (flat_map dimension_
 
 abbrev pub kind_parts : NodeKind → List Part
 kind_parts Group = []
-kind_parts (Array shape names manifests) = shape_part shape ∷ part_if names_part names ∷ manifests_part manifests ∷ []
+kind_parts (Array shape names manifests) =
+    shape_part shape ∷ part_if names_part names ∷ manifests_part manifests ∷ []
 
 unfoldable pub kind_block : NodeKind → Block
 kind_block kind = table_block (kind_parts kind)
@@ -71,7 +74,8 @@ type_of (Array shape names manifests) = 1
 -- table NodeSnapshot
 abbrev pub node_parts : NodeRow → List Part
 node_parts node =
-    id8_part node.id ∷ text_part node.path ∷ bytes_part node.user_data ∷ scalar 1 (type_of node.kind)
+    id8_part node.id ∷ text_part node.path ∷ bytes_part node.user_data
+    ∷ scalar 1 (type_of node.kind)
     ∷ offset_to (kind_block node.kind) ∷ []
 
 abbrev pub node_block : NodeRow → Block
@@ -111,7 +115,8 @@ files_part files = offset_to (vector_block 8 (length files) (flat_map info_bytes
 -- table Snapshot
 abbrev pub snapshot_parts : SnapshotFile → List Part
 snapshot_parts s =
-    id12_part s.id ∷ part_if id12_part s.parent ∷ nodes_part s.nodes ∷ scalar 8 s.flushed_at ∷ text_part s.message
+    id12_part s.id ∷ part_if id12_part s.parent ∷ nodes_part s.nodes
+    ∷ scalar 8 s.flushed_at ∷ text_part s.message
     ∷ part_if props_part (some_props s.props) ∷ files_part s.manifest_files ∷ []
 
 unfoldable pub snapshot_block : SnapshotFile → Block
@@ -121,16 +126,16 @@ snapshot_block s = table_block (snapshot_parts s)
 unfoldable pub snapshot_bytes : SnapshotFile → List ℕ
 snapshot_bytes s = header kinds.Snapshot ++ payload (snapshot_block s)
 
--- what can be written: the nodes and the manifest files strictly ascend, the nodes keep to their limit, and the manifests
--- that they name are listed
+-- what can be written: the nodes and the manifest files strictly ascend, the nodes keep to their
+-- limit, and the manifests that they name are listed
 pub record IsWritable (s : SnapshotFile) : Type 0 where
   pub few : length s.nodes ≤ node_limit
   pub nodes : Ascends node_key None s.nodes
   pub files : Ascends file_key None s.manifest_files
   pub listed : first_unlisted s.manifest_files s.nodes ≡ None
 
--- what the types say of a snapshot: ids are 12 or 8 bytes, numbers have their width, texts are UTF-8, data is bytes, and
--- properties keep their rule
+-- what the types say of a snapshot: ids are 12 or 8 bytes, numbers have their width, texts are
+-- UTF-8, data is bytes, and properties keep their rule
 abbrev pub IsDimension : ℕ × ℕ → Type 0
 IsDimension dimension = (dimension.0 < 2 ^ 64) × (dimension.1 < 2 ^ 64)
 
@@ -144,7 +149,8 @@ pub record IsManifest (manifest : ManifestRef) : Type 0 where
   pub id : IsId12 manifest.id
   pub extents : AllByRecursion IsExtent manifest.extents
 
-pub record IsArray (shape : List (ℕ × ℕ)) (names : Option (List (Option (List ℕ)))) (manifests : List ManifestRef) : Type 0 where
+pub record IsArray (shape : List (ℕ × ℕ)) (names : Option (List (Option (List ℕ))))
+    (manifests : List ManifestRef) : Type 0 where
   pub shape_is : AllByRecursion IsDimension shape
   pub names_are : IfSome names (AllByRecursion IsName)
   pub manifests_are : AllByRecursion IsManifest manifests

@@ -1,5 +1,7 @@
--- What the tables of a snapshot's nodes say. (Icechunk specification version 1, "Snapshot"; which slot has what is own.)
-use Rattle.std.specs.Prelude.{ℕ, ◌==◌, if◌then◌else◌, List, [], map, take, drop, Option, Some, None, Result, Ok, Err}
+-- What the tables of a snapshot's nodes say. (Icechunk specification version 1,
+-- "Snapshot"; which slot has what is own.)
+use Rattle.std.specs.Prelude.{ℕ, ◌==◌, if◌then◌else◌, List, [], map, take}
+use Rattle.std.specs.Prelude.{drop, Option, Some, None, Result, Ok, Err}
 use Rattle.std.specs.Int.{w32, w64, from_le_bytes}
 use Rattle.ice_ids.specs.declared.Id8.{Id8}
 use Rattle.zarr_path.specs.Paths.{is_path}
@@ -7,7 +9,8 @@ use Rattle.flat_tables.specs.declared.fault.FileFault.{FileFault}
 use Rattle.flat_tables.specs.declared.fault.FileFault.TheVariants as faults
 use Rattle.flat_tables.specs.Step.{◌>>=◌, on_some}
 use Rattle.file_fields.specs.Fields.{id8_of, id12_of}
-use Rattle.flat_tables.specs.Places.{TableIn, VectorIn, scalar_of, text_of, child_of, vector_of, items_of, all_of, table_of}
+use Rattle.flat_tables.specs.Places.{TableIn, VectorIn, scalar_of, text_of, child_of}
+use Rattle.flat_tables.specs.Places.{vector_of, items_of, all_of, table_of}
 use Rattle.flat_tables.specs.Rows.{flat, required, optional_rows, rows, each}
 use Rattle.snapshot_file.specs.declared.nodes.ManifestRef.{ManifestRef}
 use Rattle.snapshot_file.specs.declared.nodes.NodeKind.{NodeKind}
@@ -61,8 +64,8 @@ array_of t = do
   manifests ← manifests_of t
   Ok (Array shape names manifests)
 
--- what a node is by the number of its type: 1 for an array, 2 for a group, whose table has no slots; nothing where the
--- number is another, and then the table isn't looked at
+-- what a node is by the number of its type: 1 for an array, 2 for a group, whose table has no
+-- slots; nothing where the number is another, and then the table isn't looked at
 unfoldable pub kind_of : ℕ → TableIn → Result (Option NodeKind) FileFault
 kind_of type t =
     if type == 1 then (array_of t >>= λ kind. Ok (Some kind)) else

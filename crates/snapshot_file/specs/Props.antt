@@ -1,5 +1,7 @@
--- Properties, the named texts of a snapshot: which names and values they have, and how one is added. (Own.)
-use Rattle.std.specs.Prelude.{◌≡◌, ◌⊎◌, ◌≤◌, ◌==◌, ◌||◌, ◌&&◌, not, nat_lt, nat_le, ℕ, Bool, true, if◌then◌else◌, List, length, bytes_eq, Option, None, Some}
+-- Properties, the named texts of a snapshot: which names and values they
+-- have, and how one is added. (Own.)
+use Rattle.std.specs.Prelude.{◌≡◌, ◌⊎◌, ◌≤◌, ◌==◌, ◌||◌, ◌&&◌, not, nat_lt, nat_le, ℕ, Bool, true}
+use Rattle.std.specs.Prelude.{if◌then◌else◌, List, length, bytes_eq, Option, None, Some}
 use Rattle.std.specs.declared.cmp.Ordering.{Ordering}
 use Rattle.std.specs.List.{list_any, AllByRecursion}
 use Rattle.std.specs.Ordering.{nat_cmp}
@@ -19,7 +21,8 @@ is_blank byte = nat_lt byte 33 || byte == 127
 
 -- a name has 1 to 200 bytes, none of them blank, and a value at most 65,536
 unfoldable pub is_prop_name : List ℕ → Bool
-is_prop_name name = nat_le 1 (length name) && nat_le (length name) 200 && not (list_any is_blank name)
+is_prop_name name =
+    nat_le 1 (length name) && nat_le (length name) 200 && not (list_any is_blank name)
 
 unfoldable pub is_prop_value : List ℕ → Bool
 is_prop_value value = nat_le (length value) 65536
@@ -60,4 +63,6 @@ prop_fault props name value =
 
 -- it is refused with that, and memory may run out for one that is not
 abbrev pub RefusesProp : List (List ℕ × List ℕ) → (name value : List ℕ) → PropFault → Type 0
-RefusesProp props name value fault = (prop_fault props name value ≡ Some fault) ⊎ ((fault ≡ refusals.NoMemory) × (prop_fault props name value ≡ None))
+RefusesProp props name value fault =
+    (prop_fault props name value ≡ Some fault)
+    ⊎ ((fault ≡ refusals.NoMemory) × (prop_fault props name value ≡ None))

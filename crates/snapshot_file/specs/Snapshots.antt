@@ -1,6 +1,7 @@
--- What the payload of a snapshot says. (Icechunk specification version 1, "Snapshot"; which slot has what, the limits on
--- the nodes and the properties, and that lists stand in order, is own.)
-use Rattle.std.specs.Prelude.{ℕ, not, if◌then◌else◌, Bool, List, [], position, take, drop, Option, Some, None, Result, Ok, Err, option_map}
+-- What the payload of a snapshot says. (Icechunk specification version 1, "Snapshot"; which slot
+-- has what, the limits on the nodes and the properties, and that lists stand in order, is own.)
+use Rattle.std.specs.Prelude.{ℕ, not, if◌then◌else◌, Bool, List, [], position, take}
+use Rattle.std.specs.Prelude.{drop, Option, Some, None, Result, Ok, Err, option_map}
 use Rattle.std.specs.Int.{w32, w64, from_le_bytes}
 use Rattle.std.specs.List.{list_all, list_any}
 use Rattle.ice_ids.specs.declared.Id12.{Id12}
@@ -10,7 +11,8 @@ use Rattle.flat_tables.specs.declared.fault.FileFault.{FileFault}
 use Rattle.flat_tables.specs.declared.fault.FileFault.TheVariants as faults
 use Rattle.flat_tables.specs.File.{file_of}
 use Rattle.flat_tables.specs.Step.{◌>>=◌}
-use Rattle.flat_tables.specs.Places.{TableIn, VectorIn, root_of, struct_of, scalar_of, text_of, vector_of, item_of, table_of}
+use Rattle.flat_tables.specs.Places.{TableIn, VectorIn, root_of, struct_of}
+use Rattle.flat_tables.specs.Places.{scalar_of, text_of, vector_of, item_of, table_of}
 use Rattle.flat_tables.specs.Rows.{flat, required, optional_rows, at_most, rows, each, in_order}
 use Rattle.file_fields.specs.Fields.{id12_of}
 use Rattle.snapshot_file.specs.declared.nodes.ManifestRef.{ManifestRef}
@@ -61,7 +63,8 @@ few_properties_in v = at_most prop_limit v.count >>= λ _. properties_in v
 unfoldable pub properties_of : TableIn → Result (List (List ℕ × List ℕ)) FileFault
 properties_of t = optional_rows (vector_of t 5 4) few_properties_in
 
--- struct ManifestFileInfo, 32 bytes: the id, 4 bytes, the file's length, its number of chunks, and 4 bytes
+-- struct ManifestFileInfo, 32 bytes: the id, 4 bytes, the file's length,
+-- its number of chunks, and 4 bytes
 abbrev pub info_of : List ℕ → ManifestInfo
 info_of bytes = record {
   id = record { 0 = take 12 bytes };
@@ -106,8 +109,10 @@ parent_of t = do
   parent ← flat (struct_of t 1 12)
   Ok (id_if parent)
 
--- the slots behind the nodes: when it was flushed, the message, the properties, and the manifest files
-unfoldable pub rest_of : TableIn → Result (ℕ × (List ℕ × (List (List ℕ × List ℕ) × List ManifestInfo))) FileFault
+-- the slots behind the nodes: when it was flushed, the message, the
+-- properties, and the manifest files
+unfoldable pub rest_of : TableIn
+    → Result (ℕ × (List ℕ × (List (List ℕ × List ℕ) × List ManifestInfo))) FileFault
 rest_of t = do
   flushed_at ← required 3 (scalar_of t 3 8)
   message ← required 4 (text_of t 4)

@@ -4,8 +4,10 @@ use Rattle.object_store.specs.declared.events.Op.{Op}
 use Rattle.object_store.specs.declared.events.Reply.{Reply}
 use Rattle.object_store.specs.declared.events.Event.{Event}
 use Rattle.object_store.specs.declared.events.StoreFault.{StoreFault}
-pub use Rattle.object_store.specs.Callers.{Caller, View, is_before, owns, Fits, own_event, Counted, as_client, only, HasAll, has_failed}
-use Rattle.object_store.specs.Callers.{IsOther as IsOtherBy, Waits as WaitsBy, Makes as MakesBy, Did as DidBy, Called as CalledBy, MayCall as MayCallBy}
+pub use Rattle.object_store.specs.Callers.{Caller, View, is_before, owns, Fits, own_event}
+pub use Rattle.object_store.specs.Callers.{Counted, as_client, only, HasAll, has_failed}
+use Rattle.object_store.specs.Callers.{IsOther as IsOtherBy, Waits as WaitsBy, Makes as MakesBy}
+use Rattle.object_store.specs.Callers.{Did as DidBy, Called as CalledBy, MayCall as MayCallBy}
 use Rattle.store_api.specs.Journal.{IsPolite}
 
 -- legal and polite, and not of this caller
@@ -20,8 +22,10 @@ Waits = WaitsBy IsPolite
 abbrev pub Makes : Caller → Op → Reply → List Event → List Event → Type 0
 Makes = MakesBy IsPolite
 
--- What a call of an operation did. An answer and a failure are one event, and want of memory is none.
-abbrev pub Did : {A : Type 0} → (A → Reply) → Caller → Op → Result A StoreFault → List Event → List Event → Type 0
+-- What a call of an operation did. An answer and a failure are one
+-- event, and want of memory is none.
+abbrev pub Did : {A : Type 0} → (A → Reply) → Caller → Op → Result A StoreFault
+    → List Event → List Event → Type 0
 Did reply = DidBy IsPolite reply
 
 -- What a call of an operation leaves: the caller stays, the journal goes on by what was done, and

@@ -1,13 +1,19 @@
 -- Machines that know no store: which operation they ask, and where the answer to it takes them.
 use Rattle.std.specs.Prelude.{◌≡◌, ℕ, List, Bool, true, false, Result, Ok, Err}
 use Rattle.object_store.specs.declared.events.Op.{Op}
-use Rattle.object_store.specs.declared.events.Op.TheVariants.{Get, PutNew, PutOver, Remove, RemoveAt, List as ListPart}
+use Rattle.object_store.specs.declared.events.Op.TheVariants.{Get, PutNew, PutOver, Remove}
+use Rattle.object_store.specs.declared.events.Op.TheVariants.{RemoveAt, List as ListPart}
 use Rattle.object_store.specs.declared.events.Reply.{Reply}
 use Rattle.object_store.specs.declared.events.Reply.TheVariants.{Failed}
 use Rattle.store_api.specs.declared.driving.Payload.{Payload}
 use Rattle.store_api.specs.declared.driving.Payload.TheVariants.{Made, Lent}
 use Rattle.store_api.specs.declared.driving.Request.{Request}
-use Rattle.store_api.specs.declared.driving.Request.TheVariants.{Get as Ask_get, PutNew as Ask_put_new, PutOver as Ask_put_over, Remove as Ask_remove, RemoveAt as Ask_remove_at, List as Ask_list}
+use Rattle.store_api.specs.declared.driving.Request.TheVariants.{Get as Ask_get}
+use Rattle.store_api.specs.declared.driving.Request.TheVariants.{PutNew as Ask_put_new}
+use Rattle.store_api.specs.declared.driving.Request.TheVariants.{PutOver as Ask_put_over}
+use Rattle.store_api.specs.declared.driving.Request.TheVariants.{Remove as Ask_remove}
+use Rattle.store_api.specs.declared.driving.Request.TheVariants.{RemoveAt as Ask_remove_at}
+use Rattle.store_api.specs.declared.driving.Request.TheVariants.{List as Ask_list}
 use Rattle.store_api.specs.declared.machines.Next.{Next}
 use Rattle.store_api.specs.declared.machines.Refusal.{Refusal}
 use Rattle.object_store.specs.declared.events.StoreFault.{StoreFault}
@@ -16,15 +22,15 @@ use Rattle.store_api.specs.Callers.{View, Called, Fits}
 use Rattle.store_api.specs.Program.{Prog, Done, Ask, Lands, IsSure, moves_branch, is_fault}
 
 -- the bytes of a put
-abbrev pub bytes_of : Payload → List ℕ
-bytes_of (Made bytes) = bytes
-bytes_of (Lent bytes) = bytes.now
+abbrev pub payload_bytes : Payload → List ℕ
+payload_bytes (Made bytes) = bytes
+payload_bytes (Lent bytes) = bytes.now
 
 -- the operation that is asked for
 abbrev pub op_of : Request → Op
 op_of (Ask_get key) = Get key
-op_of (Ask_put_new key bytes why) = PutNew key (bytes_of bytes) why
-op_of (Ask_put_over key bytes old why) = PutOver key (bytes_of bytes) old why
+op_of (Ask_put_new key bytes why) = PutNew key (payload_bytes bytes) why
+op_of (Ask_put_over key bytes old why) = PutOver key (payload_bytes bytes) old why
 op_of (Ask_remove key why) = Remove key why
 op_of (Ask_remove_at key old why) = RemoveAt key old why
 op_of (Ask_list part) = ListPart part
@@ -55,6 +61,9 @@ Excuses reply (Ok t) = Unit {0}
 Excuses reply (Err refusal) = has_failed reply ≡ false → is_fault refusal ≡ false
 
 -- What a machine that had p to do, and has q now, answered to a reply.
-abbrev pub Took : {T : Type 0} → Prog (Result T Refusal) → Reply → Prog (Result T Refusal) → Result (Next T) Refusal → Type 0
+abbrev pub Took : {T : Type 0} → Prog (Result T Refusal) → Reply → Prog (Result T Refusal)
+    → Result (Next T) Refusal → Type 0
 Took (Done a) reply q result = ⊥
-Took (Ask op k) reply q result = Heard (λ r. Lands (k r) q result × (moves_branch op ≡ true → IsSure (k r) result)) reply × Excuses reply result
+Took (Ask op k) reply q result =
+    Heard (λ r. Lands (k r) q result × (moves_branch op ≡ true → IsSure (k r) result)) reply
+    × Excuses reply result

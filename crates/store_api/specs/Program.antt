@@ -1,10 +1,13 @@
 -- Programs of store operations: what a machine has still to do.
-use Rattle.std.specs.Prelude.{◌≡◌, ◌⊎◌, ℕ, ◌≤◌, ◌==◌, List, [], ◌∷◌, ◌++◌, filter, Bool, true, false, IsTrue, Result, Ok, Err}
+use Rattle.std.specs.Prelude.{◌≡◌, ◌⊎◌, ℕ, ◌≤◌, ◌==◌, List, [], ◌∷◌, ◌++◌}
+use Rattle.std.specs.Prelude.{filter, Bool, true, false, IsTrue, Result, Ok, Err}
 use Rattle.ice_base.specs.Ends.{Rose}
 use Rattle.object_store.specs.declared.events.Op.{Op}
 use Rattle.object_store.specs.declared.keys.Key.{Key}
-use Rattle.object_store.specs.declared.keys.Key.TheVariants.{Snapshot, Manifest, Txn, Chunk, Branch, Tag, Tombstone, Lease}
-use Rattle.object_store.specs.declared.events.Op.TheVariants.{Get, PutNew, PutOver, Remove, RemoveAt, List as ListPart}
+use Rattle.object_store.specs.declared.keys.Key.TheVariants.{Snapshot, Manifest, Txn, Chunk}
+use Rattle.object_store.specs.declared.keys.Key.TheVariants.{Branch, Tag, Tombstone, Lease}
+use Rattle.object_store.specs.declared.events.Op.TheVariants.{Get, PutNew, PutOver, Remove}
+use Rattle.object_store.specs.declared.events.Op.TheVariants.{RemoveAt, List as ListPart}
 use Rattle.object_store.specs.declared.events.Reply.{Reply}
 use Rattle.object_store.specs.declared.events.Event.{Event}
 use Rattle.store_api.specs.declared.machines.Next.{Next}
@@ -52,23 +55,30 @@ NextIsPolite (Done a) journal = Unit {0}
 NextIsPolite (Ask op k) journal = IsPolite journal op
 
 -- ---- two weakest preconditions
--- P, a fact on a journal, a client and its operation, holds of each operation that the program comes
--- to, whatever others do.
-unfoldable pub Keeps : {A : Type 0} → (List Event → ℕ → Op → Type 0) → Caller → Prog A → List Event → Type 0
+-- P, a fact on a journal, a client and its operation, holds of each operation that the
+-- program comes to, whatever others do.
+unfoldable pub Keeps : {A : Type 0} → (List Event → ℕ → Op → Type 0) → Caller
+    → Prog A → List Event → Type 0
 Keeps P by (Done a) journal = Unit {0}
-Keeps P by (Ask op k) journal = P journal by.number op × ((reply : Reply) (new : List Event) → Makes by op reply journal new → Keeps P by (k reply) new)
+Keeps P by (Ask op k) journal =
+    P journal by.number op
+    × ((reply : Reply) (new : List Event) → Makes by op reply journal new
+    → Keeps P by (k reply) new)
 
 -- Q, a fact on an answer and a journal, holds of whatever the program answers, whatever others do.
-unfoldable pub Leads : {A : Type 0} → (A → List Event → Type 0) → Caller → Prog A → List Event → Type 0
+unfoldable pub Leads : {A : Type 0} → (A → List Event → Type 0) → Caller
+    → Prog A → List Event → Type 0
 Leads Q by (Done a) journal = Q a journal
-Leads Q by (Ask op k) journal = (reply : Reply) (new : List Event) → Makes by op reply journal new → Leads Q by (k reply) new
+Leads Q by (Ask op k) journal =
+    (reply : Reply) (new : List Event) → Makes by op reply journal new → Leads Q by (k reply) new
 
 -- ---- steps of machines
 abbrev pub is_no_memory : Refusal → Bool
 is_no_memory R.NoMemory = true
 is_no_memory _ = false
 
--- a failed operation of the store, also where it may have been done; each refusal is named, so that a new one is asked for
+-- a failed operation of the store, also where it may have been done; each refusal is named,
+-- so that a new one is asked for
 abbrev pub is_fault : Refusal → Bool
 is_fault R.NoRef = false
 is_fault (R.Edit fault) = false
@@ -101,11 +111,14 @@ is_fault (R.Differs key) = false
 is_fault R.TargetFault = false
 is_fault (R.Region fault) = false
 
--- What a step answered and what it left to do, where the program had come to next. Want of memory is free.
-abbrev pub Lands : {T : Type 0} → Prog (Result T Refusal) → Prog (Result T Refusal) → Result (Next T) Refusal → Type 0
+-- What a step answered and what it left to do, where the program had come
+-- to next. Want of memory is free.
+abbrev pub Lands : {T : Type 0} → Prog (Result T Refusal) → Prog (Result T Refusal)
+    → Result (Next T) Refusal → Type 0
 Lands next rest (Ok Again) = (next ≡ rest) × IsAsk rest
 Lands next rest (Ok (Ready t)) = (next ≡ Done (Ok t)) × IsDone rest
-Lands next rest (Err refusal) = IsDone rest × (is_no_memory refusal ≡ false → next ≡ Done (Err refusal))
+Lands next rest (Err refusal) =
+    IsDone rest × (is_no_memory refusal ≡ false → next ≡ Done (Err refusal))
 
 -- a key of a branch; each kind is named, so that a new one is asked for
 abbrev pub is_branch : Key → Bool
@@ -132,9 +145,10 @@ abbrev pub IsSure : {T : Type 0} → Prog (Result T Refusal) → Result (Next T)
 IsSure next (Ok answer) = Unit {0}
 IsSure next (Err refusal) = next ≡ Done (Err refusal)
 
--- A step with an operation: this caller's own event was made. What follows from a put over of a branch isn't lost for want of
--- memory.
-pub record Moves {T : Type 0} (old new : View) (p q : Prog (Result T Refusal)) (result : Result (Next T) Refusal) : Type 0 where
+-- A step with an operation: this caller's own event was made. What follows from a put over of a
+-- branch isn't lost for want of memory.
+pub record Moves {T : Type 0} (old new : View) (p q : Prog (Result T Refusal))
+    (result : Result (Next T) Refusal) : Type 0 where
   pub op : Op
   pub next : Reply → Prog (Result T Refusal)
   pub reply : Reply
@@ -145,7 +159,8 @@ pub record Moves {T : Type 0} (old new : View) (p q : Prog (Result T Refusal)) (
   pub sure : moves_branch op ≡ true → IsSure (next reply) result
 
 -- a step for which the store had no memory
-pub record Stops {T : Type 0} (old new : View) (q : Prog (Result T Refusal)) (result : Result (Next T) Refusal) : Type 0 where
+pub record Stops {T : Type 0} (old new : View) (q : Prog (Result T Refusal))
+    (result : Result (Next T) Refusal) : Type 0 where
   pub result_is : result ≡ Err R.NoMemory
   pub waits : IsTrue old.caller.tells → Waits old.caller old.seen new.seen
   pub ended : IsDone q
@@ -156,7 +171,8 @@ Blames (Ok t) m n = m ≤ n
 Blames (Err refusal) m n = (m ≤ n) × (is_fault refusal ≡ true → Rose m n)
 
 -- One step of a machine that had p to do and has q now.
-pub record Steps {T : Type 0} (old new : View) (p q : Prog (Result T Refusal)) (result : Result (Next T) Refusal) : Type 0 where
+pub record Steps {T : Type 0} (old new : View) (p q : Prog (Result T Refusal))
+    (result : Result (Next T) Refusal) : Type 0 where
   pub same : new.caller ≡ old.caller
   pub blames : Blames result old.faults new.faults
   pub went : Moves old new p q result ⊎ Stops old new q result

@@ -1,5 +1,6 @@
 -- What was done where a machine was run to its end on a store.
-use Rattle.std.specs.Prelude.{◌≡◌, ◌⊎◌, ◌≤◌, List, [], ◌∷◌, ◌++◌, Bool, true, false, IsTrue, Result, Ok, Err}
+use Rattle.std.specs.Prelude.{◌≡◌, ◌⊎◌, ◌≤◌, List, [], ◌∷◌, ◌++◌}
+use Rattle.std.specs.Prelude.{Bool, true, false, IsTrue, Result, Ok, Err}
 use Rattle.std.specs.List.{All}
 use Rattle.ice_base.specs.Ends.{Rose}
 use Rattle.object_store.specs.declared.events.Event.{Event}
@@ -7,7 +8,8 @@ use Rattle.store_api.specs.declared.machines.Refusal.{Refusal}
 use Rattle.store_api.specs.declared.machines.Refusal.TheVariants.{NoMemory}
 use Rattle.store_api.specs.Callers.{Caller, View, HasAll, Fits}
 use Rattle.store_api.specs.Journal.{Each, IsGood, IsPolite}
-use Rattle.store_api.specs.Program.{Prog, Done, IsAsk, bind, Path, Keeps, Grows, is_fault, moves_branch}
+use Rattle.store_api.specs.Program.{Prog, Done, IsAsk, bind, Path}
+use Rattle.store_api.specs.Program.{Keeps, Grows, is_fault, moves_branch}
 
 -- ---- programs that may be refused
 -- a program that ends with an answer or a refusal
@@ -34,9 +36,11 @@ ends_moving [] = false
 ends_moving (event ∷ []) = moves_branch event.op
 ends_moving (event ∷ next ∷ events) = ends_moving (next ∷ events)
 
--- Memory ran out when these events had been made, and this was left of the program. What follows from a put over of a
--- branch isn't lost so: where one came last, memory was wanting for the operation that comes next.
-pub record IsCutOff {A : Type 0} (p : Program A) (own : List Event) (result : Result A Refusal) : Type 0 where
+-- Memory ran out when these events had been made, and this was left of the program. What
+-- follows from a put over of a branch isn't lost so: where one came last, memory was wanting
+-- for the operation that comes next.
+pub record IsCutOff {A : Type 0} (p : Program A) (own : List Event)
+    (result : Result A Refusal) : Type 0 where
   pub result_is : result ≡ Err NoMemory
   pub left : Program A
   pub path : Path p own left
@@ -47,11 +51,13 @@ pub record Adds (own old new : List Event) : Type 0 where
   pub is : new ≡ old ++ own
   pub good : Each IsGood old own
 
--- The program was run, with this result. These operations were made, each with a reply of its kind, and they lead
--- the program to its end or to where memory ran out. The caller stays; the faults of the store never fall, and where
--- one is told they rose. Where the store tells the journal, it went on by good events, and the client's own among them
--- are these; a client that has every number was alone.
-pub record Runs {A : Type 0} (old new : View) (p : Program A) (result : Result A Refusal) : Type 0 where
+-- The program was run, with this result. These operations were made, each with a reply of its
+-- kind, and they lead the program to its end or to where memory ran out. The caller stays;
+-- the faults of the store never fall, and where one is told they rose. Where the store tells
+-- the journal, it went on by good events, and the client's own among them are these; a client
+-- that has every number was alone.
+pub record Runs {A : Type 0} (old new : View) (p : Program A)
+    (result : Result A Refusal) : Type 0 where
   pub same : new.caller ≡ old.caller
   pub faults : old.faults ≤ new.faults
   pub blames : (why : Refusal) → result ≡ Err why → is_fault why ≡ true → Rose old.faults new.faults

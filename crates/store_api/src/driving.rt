@@ -17,11 +17,11 @@ pub enum Payload<'a> {
 }
 
 impl Payload<'_> {
-    ghost use Rattle.store_api.specs.Driving.{bytes_of};
+    ghost use Rattle.store_api.specs.Driving.{payload_bytes};
 
     /// The bytes as a slice.
     pub fn as_slice(&self) -> &[u8]
-        ensures { result.now ≡ bytes_of self.now }
+        ensures { result.now ≡ payload_bytes self.now }
     {
         match self {
             Payload::Made(bytes) => bytes.as_slice(),

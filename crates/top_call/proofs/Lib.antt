@@ -1,4 +1,5 @@
 mod Rows
+mod Scripts
 mod Lasts
 mod Checking
 pub mod Endings

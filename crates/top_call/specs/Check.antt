@@ -19,12 +19,13 @@ use Rattle.top_call.specs.declared.statuses.Status.TheVariants as S
 use Rattle.top_call.specs.Telling.{Told}
 use Rattle.top_call.specs.Run.{IsUntouched}
 
--- By client 1 the store was checked, and nothing else was done. What came of it was written under the name `check`, and the status is that of the first
--- cause that holds.
+-- By client 1 the store was checked, and nothing else was done. What came of it was written under
+-- the name `check`, and the status is that of the first cause that holds.
 pub record DidCheck (s t : View) (x y : OutputAt) (status : Status) : Type 0 where
   pub outcome : Outcome
   pub checked : WasChecked s t outcome
-  pub told : Told (λ text. text ≡ outcome_text (codes "check") outcome) (why_ended outcome) x y status
+  pub told : Told (λ text. text ≡ outcome_text (codes "check") outcome)
+      (why_ended outcome) x y status
 
 -- Each status of a check. Without memory it may not have begun.
 abbrev pub Checks : View → View → OutputAt → OutputAt → Status → Type 0
@@ -39,6 +40,9 @@ Checks s t x y status = DidCheck s t x y status
 abbrev pub check_alone : Task
 check_alone = record { name = codes "check"; line = 1; head = head.Check; body = [] }
 
--- Where the journal was sound, and the ids of a run of such a task were new to it, it is so again, with all that is known of its histories.
+-- Where the journal was sound, and the ids of a run of such a task were new to it, it is so again,
+-- with all that is known of its histories.
 abbrev pub StaysSound : Draw → (old new : List Event) → Type 0
-StaysSound draw old new = (before : ℕ → Changes) → IsSound old before → IsNewRun draw (check_alone ∷ []) old → (start : List Event) × HasHistories draw (check_alone ∷ []) before old start new
+StaysSound draw old new =
+    (before : ℕ → Changes) → IsSound old before → IsNewRun draw (check_alone ∷ []) old
+    → (start : List Event) × HasHistories draw (check_alone ∷ []) before old start new

@@ -13,17 +13,21 @@ use Rattle.top_call.specs.Run.{HasScript}
 use Rattle.top_call.specs.Promise.{World}
 use Rattle.top_call.specs.Check.{StaysSound}
 
--- A script was read; and where the journal was sound, and the clients' ids were new to it, it is sound again, with all that is known of its histories.
+-- A script was read; and where the journal was sound, and the clients' ids were new to it, it is
+-- sound again, with all that is known of its histories.
 pub record KeepsSoundness (draw : Draw) (command : Command) (a b : World) : Type 0 where
   pub script : Script
   pub reads : HasScript command a.input b.input script
-  pub keeps : (before : ℕ → Changes) → IsSound a.store.seen before → IsNewRun draw script.tasks a.store.seen → (start : List Event) × HasHistories draw script.tasks before a.store.seen start b.store.seen
+  pub keeps : (before : ℕ → Changes) → IsSound a.store.seen before
+      → IsNewRun draw script.tasks a.store.seen
+      → (start : List Event) × HasHistories draw script.tasks before a.store.seen start b.store.seen
 
 -- nothing was done, or so
 abbrev pub LeavesSound : Draw → Command → World → World → Type 0
 LeavesSound draw command a b = (b.store ≡ a.store) ⊎ KeepsSoundness draw command a b
 
--- over a store that tells its journal; and behind `check`, which plays no script, it is as sound as before
+-- over a store that tells its journal; and behind `check`, which plays no
+-- script, it is as sound as before
 abbrev pub GoesOn : Draw → Command → World → World → Type 0
 GoesOn draw C.Check a b = IsTrue a.store.caller.tells → StaysSound draw a.store.seen b.store.seen
 GoesOn draw command a b = IsTrue a.store.caller.tells → LeavesSound draw command a b

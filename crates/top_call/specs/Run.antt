@@ -17,7 +17,8 @@ abbrev pub most_input : ℕ
 most_input = 1048577
 
 -- ---- the script that a command plays
--- its text: by `cells` the one that is made from the words, by `grow` the one that is made from the number, else the input
+-- its text: by `cells` the one that is made from the words, by `grow` the one that is made
+-- from the number, else the input
 abbrev pub IsSource : Command → InputAt → InputAt → List ℕ → Type 0
 IsSource (C.Cells box) old new text = text ≡ cells_text box.branch box.path box.from box.to
 IsSource (C.Grow tasks) old new text = text ≡ script_text tasks
@@ -36,7 +37,8 @@ pub record HasScript (command : Command) (old new : InputAt) (script : Script) :
   pub reads : script_of text ≡ Ok script
 
 -- the first line of the text that is refused
-pub record HasFault (command : Command) (old new : InputAt) (line : ℕ) (kind : ScriptKind) : Type 0 where
+pub record HasFault (command : Command) (old new : InputAt) (line : ℕ)
+    (kind : ScriptKind) : Type 0 where
   pub text : List ℕ
   pub source : IsSource command old new text
   pub reads : script_of text ≡ Err (line, kind)
@@ -54,7 +56,8 @@ pub record IsUntouched (store_old store_new : View) (out_old out_new : OutputAt)
   pub out : out_new ≡ out_old
 
 -- ---- what each status says of a command that prints a text
--- all of the text was written, or not all of it and the sink failed; without memory nothing was written
+-- all of the text was written, or not all of it and the sink failed;
+-- without memory nothing was written
 abbrev pub SayEnds : List ℕ → OutputAt → OutputAt → Status → Type 0
 SayEnds text old new S.Ok = WroteWhole old new text
 SayEnds text old new S.WriteFault = WroteLess old new text
@@ -63,19 +66,25 @@ SayEnds text old new _ = ⊥
 
 -- and nothing was read or done
 abbrev pub Says : List ℕ → InputAt → InputAt → View → View → OutputAt → OutputAt → Status → Type 0
-Says text in_old in_new s t out_old out_new status = (in_new ≡ in_old) × (t ≡ s) × SayEnds text out_old out_new status
+Says text in_old in_new s t out_old out_new status =
+    (in_new ≡ in_old) × (t ≡ s) × SayEnds text out_old out_new status
 
 -- ---- which statuses there can be
--- where the source tells its bytes and a line of them is refused, the status is that line, unless the source failed or memory
--- was wanting; and so it is where a line of the text that `cells` or `grow` makes is refused
+-- where the source tells its bytes and a line of them is refused, the status is that line,
+-- unless the source failed or memory was wanting; and so it is where a line of the text that
+-- `cells` or `grow` makes is refused
 abbrev pub TellsRefused : Command → InputAt → Status → Type 0
 TellsRefused C.Play input status =
-    (bytes : List ℕ) (line : ℕ) (kind : ScriptKind) → input.left ≡ Some bytes → script_of bytes ≡ Err (line, kind)
+    (bytes : List ℕ) (line : ℕ) (kind : ScriptKind) → input.left ≡ Some bytes
+    → script_of bytes ≡ Err (line, kind)
     → (status ≡ S.Script line kind) ⊎ ((status ≡ S.ReadFault) ⊎ (status ≡ S.NoMemory))
 TellsRefused (C.Cells box) input status =
-    (line : ℕ) (kind : ScriptKind) → script_of (cells_text box.branch box.path box.from box.to) ≡ Err (line, kind) → (status ≡ S.Script line kind) ⊎ (status ≡ S.NoMemory)
+    (line : ℕ) (kind : ScriptKind)
+    → script_of (cells_text box.branch box.path box.from box.to) ≡ Err (line, kind)
+    → (status ≡ S.Script line kind) ⊎ (status ≡ S.NoMemory)
 TellsRefused (C.Grow tasks) input status =
-    (line : ℕ) (kind : ScriptKind) → script_of (script_text tasks) ≡ Err (line, kind) → (status ≡ S.Script line kind) ⊎ (status ≡ S.NoMemory)
+    (line : ℕ) (kind : ScriptKind) → script_of (script_text tasks) ≡ Err (line, kind)
+    → (status ≡ S.Script line kind) ⊎ (status ≡ S.NoMemory)
 TellsRefused command input status = Unit {0}
 
 -- no count of faults rose

@@ -1,5 +1,6 @@
 -- The statuses of the program (own).
-use Rattle.std.specs.Prelude.{◌≡◌, ◌⊎◌, ◌↔◌, ℕ, List, [], ◌++◌, Bool, true, false, if◌then◌else◌, codes, decimal}
+use Rattle.std.specs.Prelude.{◌≡◌, ◌⊎◌, ◌↔◌, ℕ, List, [], ◌++◌}
+use Rattle.std.specs.Prelude.{Bool, true, false, if◌then◌else◌, codes, decimal}
 use Rattle.std.specs.declared.io.ErrorKind.{ErrorKind}
 use Rattle.std.specs.declared.io.ErrorKind.TheVariants as K
 use Rattle.ice_base.specs.declared.ends.InputFault.{InputFault}
@@ -30,7 +31,8 @@ abbrev pub line_of : Status → List ℕ
 line_of S.Ok = []
 line_of S.Refused = []
 line_of (S.Usage fault) = codes "icerepo: usage"
-line_of (S.Script line kind) = codes "icerepo: script line " ++ decimal line ++ codes ": " ++ kind_text kind
+line_of (S.Script line kind) =
+    codes "icerepo: script line " ++ decimal line ++ codes ": " ++ kind_text kind
 line_of S.ReadFault = codes "icerepo: read fault"
 line_of S.WriteFault = codes "icerepo: write fault"
 line_of S.StoreFault = codes "icerepo: store fault"
@@ -83,9 +85,14 @@ status_of c =
 pub record Rows (c : Causes) : Type 0 where
   pub no_memory : (status_of c ≡ S.NoMemory) ↔ (c.no_memory ≡ true)
   pub store_fault : (status_of c ≡ S.StoreFault) ↔ ((c.no_memory ≡ false) × (c.store_fault ≡ true))
-  pub write_fault : (status_of c ≡ S.WriteFault) ↔ ((c.no_memory ≡ false) × (c.store_fault ≡ false) × (c.unwritten ≡ true))
-  pub refused : (status_of c ≡ S.Refused) ↔ ((c.no_memory ≡ false) × (c.store_fault ≡ false) × (c.unwritten ≡ false) × (c.refused ≡ true))
-  pub ok : (status_of c ≡ S.Ok) ↔ ((c.no_memory ≡ false) × (c.store_fault ≡ false) × (c.unwritten ≡ false) × (c.refused ≡ false))
+  pub write_fault : (status_of c ≡ S.WriteFault)
+      ↔ ((c.no_memory ≡ false) × (c.store_fault ≡ false) × (c.unwritten ≡ true))
+  pub refused : (status_of c ≡ S.Refused)
+      ↔ ((c.no_memory ≡ false) × (c.store_fault ≡ false)
+      × (c.unwritten ≡ false) × (c.refused ≡ true))
+  pub ok : (status_of c ≡ S.Ok)
+      ↔ ((c.no_memory ≡ false) × (c.store_fault ≡ false) × (c.unwritten ≡ false)
+      × (c.refused ≡ false))
 
 abbrev pub RowsLaw : Type 0
 RowsLaw = (c : Causes) → Rows c

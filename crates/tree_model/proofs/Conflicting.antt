@@ -18,7 +18,7 @@ use Rattle.zarr_tree.specs.declared.lists.Touched.{Touched}
 use Rattle.zarr_tree.specs.Nodes.{Node, is_group, is_array, same_numbers}
 use Rattle.zarr_tree.specs.Changes.{Changes, has_id}
 use Rattle.zarr_tree.specs.Touched.{lists, lists_index, lists_new}
-use Rattle.zarr_tree.specs.Held.{Entry, meta_in, entry_in, changes_of, nodes_over}
+use Rattle.zarr_tree.specs.Held.{HeldEntry, meta_in, entry_in, changes_of, nodes_over}
 use Rattle.zarr_tree.specs.Conflicts.{IsConflict, AtNode, HasEntry, HasChunkListed, HasNewBeneath, TakesAway}
 use Rattle.zarr_tree.proofs.Apply.{both, first, second}
 use Rattle.tree_model.specs.Models.{tree_with}
@@ -85,14 +85,14 @@ other-test f g (y ∷ ys) x (inr h) = inr (other-test f g ys x h)
 
 -- ---- entries
 abbrev Chunks : Type 0
-Chunks = List (Entry (List ℕ))
+Chunks = List (HeldEntry (List ℕ))
 
 entry-found : (rows : Chunks) (id : Id8) (i : List ℕ) → is_some (entry_in rows id i) ≡ true → has_chunks rows id ≡ true
 entry-found [] id i h = cc
 entry-found (r ∷ rs) id i h = by_id (entry-found rs id i) (same_id8 r.0 id) (same_numbers r.1 i) h
   where
     by_id : (is_some (entry_in rs id i) ≡ true → has_chunks rs id ≡ true) → (a b : Bool)
-        → is_some (option_map (λ (row : Entry (List ℕ)). row.2) (cond (a && b) (Some r) (find (λ (row : Entry (List ℕ)). same_id8 row.0 id && same_numbers row.1 i) rs))) ≡ true → (a || has_chunks rs id) ≡ true
+        → is_some (option_map (λ (row : HeldEntry (List ℕ)). row.2) (cond (a && b) (Some r) (find (λ (row : HeldEntry (List ℕ)). same_id8 row.0 id && same_numbers row.1 i) rs))) ≡ true → (a || has_chunks rs id) ≡ true
     by_id f true b h = refl
     by_id f false b h = f h
 
@@ -103,15 +103,15 @@ found-entry : (rows : Chunks) (id : Id8) → has_chunks rows id ≡ true → Fou
 found-entry [] id h = cc
 found-entry (e ∷ es) id h = by_id (found-entry es id) (same_id8 e.0 id) refl h
   where
-    rest : List ℕ → Option (Entry (List ℕ))
-    rest i = find (λ (row : Entry (List ℕ)). same_id8 row.0 id && same_numbers row.1 i) es
+    rest : List ℕ → Option (HeldEntry (List ℕ))
+    rest i = find (λ (row : HeldEntry (List ℕ)). same_id8 row.0 id && same_numbers row.1 i) es
 
-    at_last : (i : List ℕ) → is_some (entry_in es id i) ≡ true → (b : Bool) → is_some (option_map (λ (row : Entry (List ℕ)). row.2) (cond b (Some e) (rest i))) ≡ true
+    at_last : (i : List ℕ) → is_some (entry_in es id i) ≡ true → (b : Bool) → is_some (option_map (λ (row : HeldEntry (List ℕ)). row.2) (cond b (Some e) (rest i))) ≡ true
     at_last i x true = refl
     at_last i x false = x
 
     by_id : (has_chunks es id ≡ true → FoundEntry es id) → (a : Bool) → same_id8 e.0 id ≡ a → (a || has_chunks es id) ≡ true → FoundEntry (e ∷ es) id
-    by_id f true is h = (e.1, ap (λ b. is_some (option_map (λ (row : Entry (List ℕ)). row.2) (cond b (Some e) (rest e.1)))) (both _ _ is (same_path-refl e.1)))
+    by_id f true is h = (e.1, ap (λ b. is_some (option_map (λ (row : HeldEntry (List ℕ)). row.2) (cond b (Some e) (rest e.1)))) (both _ _ is (same_path-refl e.1)))
     by_id f false is h = let x = f h in (x.0, at_last x.0 x.1 (same_id8 e.0 id && same_numbers e.1 x.0))
 
 -- ---- listed chunks

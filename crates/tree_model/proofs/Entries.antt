@@ -9,14 +9,14 @@ use Rattle.ice_ids.specs.Text.{same_id8}
 use Rattle.zarr_path.proofs.OrderLaws.{same_path-true, same_path-refl}
 use Rattle.zarr_tree.specs.Nodes.{same_numbers}
 use Rattle.zarr_tree.specs.Touched.{lists}
-use Rattle.zarr_tree.specs.Held.{Entry, meta_in, entry_in}
+use Rattle.zarr_tree.specs.Held.{HeldEntry, meta_in, entry_in}
 use Rattle.zarr_tree.proofs.Apply.{id-true, id-refl, first, second}
 
 abbrev Texts : Type 0
 Texts = List (Id8 × List ℕ)
 
 abbrev Chunks : Type 0
-Chunks = List (Entry (List ℕ))
+Chunks = List (HeldEntry (List ℕ))
 
 pub id-turned : (a b : Id8) → same_id8 a b ≡ same_id8 b a
 id-turned a b = both_ways _ _ (λ e. ap (same_id8 b) (id-true a b e) ∙ id-refl b) (λ e. ap (same_id8 a) (id-true b a e) ∙ id-refl a)
@@ -57,7 +57,7 @@ texts-left rows ids id =
     ∙ mapped (λ (row : Id8 × List ℕ). row.1) (lists ids id) (find (λ (row : Id8 × List ℕ). same_id8 row.0 id) rows)
 
 -- ---- entries of chunks
-abbrev is_for : Id8 → (index : List ℕ) → Entry (List ℕ) → Bool
+abbrev is_for : Id8 → (index : List ℕ) → HeldEntry (List ℕ) → Bool
 is_for id j row = same_id8 row.0 id && same_numbers row.1 j
 
 -- the bytes that an entry of the changes has
@@ -79,22 +79,22 @@ pub entry-first : (rows : Chunks) (k : Id8) (i : List ℕ) (entry : Option (List
     → bytes_in ((k, i, entry) ∷ rows) id j ≡ cond (same_id8 id k && same_numbers j i) (Some entry) (bytes_in rows id j)
 entry-first rows k i entry id j =
     bytes-in ((k, i, entry) ∷ rows) id j
-    ∙ elim (same_id8 k id && same_numbers i j) as (λ b. option_map (λ (row : Entry (List ℕ)). row.2) (cond b (Some (k, i, entry)) (find (is_for id j) rows)) ≡ cond b (Some entry) (entry_in rows id j)) [ true ↦ refl | false ↦ refl ]
+    ∙ elim (same_id8 k id && same_numbers i j) as (λ b. option_map (λ (row : HeldEntry (List ℕ)). row.2) (cond b (Some (k, i, entry)) (find (is_for id j) rows)) ≡ cond b (Some entry) (entry_in rows id j)) [ true ↦ refl | false ↦ refl ]
     ∙ (λ n. cond (id-turned k id n && numbers-turned i j n) (Some entry) (sym (bytes-in rows id j) n))
 
 -- those that are for some nodes, and the one for a chunk, taken away
-module _ (rows : Chunks) (out : Entry (List ℕ) → Bool) (id : Id8) (j : List ℕ) (gone : Bool) (its : (row : Entry (List ℕ)) → is_for id j row ≡ true → out row ≡ gone) where
-  entry-left : bytes_in (filter (λ (row : Entry (List ℕ)). not (out row)) rows) id j ≡ cond gone None (bytes_in rows id j)
+module _ (rows : Chunks) (out : HeldEntry (List ℕ) → Bool) (id : Id8) (j : List ℕ) (gone : Bool) (its : (row : HeldEntry (List ℕ)) → is_for id j row ≡ true → out row ≡ gone) where
+  entry-left : bytes_in (filter (λ (row : HeldEntry (List ℕ)). not (out row)) rows) id j ≡ cond gone None (bytes_in rows id j)
   entry-left =
-      bytes-in (filter (λ (row : Entry (List ℕ)). not (out row)) rows) id j
-      ∙ ap (option_map (λ (row : Entry (List ℕ)). row.2)) (find-left (is_for id j) out gone its rows)
-      ∙ mapped (λ (row : Entry (List ℕ)). row.2) gone (find (is_for id j) rows)
+      bytes-in (filter (λ (row : HeldEntry (List ℕ)). not (out row)) rows) id j
+      ∙ ap (option_map (λ (row : HeldEntry (List ℕ)). row.2)) (find-left (is_for id j) out gone its rows)
+      ∙ mapped (λ (row : HeldEntry (List ℕ)). row.2) gone (find (is_for id j) rows)
       ∙ ap (λ o. cond gone None o) (sym (bytes-in rows id j))
 
-pub chunks-left : (rows : Chunks) (ids : List Id8) (id : Id8) (j : List ℕ) → bytes_in (filter (λ (row : Entry (List ℕ)). not (lists ids row.0)) rows) id j ≡ cond (lists ids id) None (bytes_in rows id j)
-chunks-left rows ids id j = entry-left rows (λ (row : Entry (List ℕ)). lists ids row.0) id j (lists ids id) (λ row e. ap (lists ids) (id-true row.0 id (first (same_id8 row.0 id) (same_numbers row.1 j) e)))
+pub chunks-left : (rows : Chunks) (ids : List Id8) (id : Id8) (j : List ℕ) → bytes_in (filter (λ (row : HeldEntry (List ℕ)). not (lists ids row.0)) rows) id j ≡ cond (lists ids id) None (bytes_in rows id j)
+chunks-left rows ids id j = entry-left rows (λ (row : HeldEntry (List ℕ)). lists ids row.0) id j (lists ids id) (λ row e. ap (lists ids) (id-true row.0 id (first (same_id8 row.0 id) (same_numbers row.1 j) e)))
 
 pub chunk-left : (rows : Chunks) (k : Id8) (i : List ℕ) (id : Id8) (j : List ℕ)
-    → bytes_in (filter (λ (row : Entry (List ℕ)). not (same_id8 row.0 k && same_numbers row.1 i)) rows) id j ≡ cond (same_id8 id k && same_numbers j i) None (bytes_in rows id j)
-chunk-left rows k i id j = entry-left rows (λ (row : Entry (List ℕ)). same_id8 row.0 k && same_numbers row.1 i) id j (same_id8 id k && same_numbers j i) (λ row e.
+    → bytes_in (filter (λ (row : HeldEntry (List ℕ)). not (same_id8 row.0 k && same_numbers row.1 i)) rows) id j ≡ cond (same_id8 id k && same_numbers j i) None (bytes_in rows id j)
+chunk-left rows k i id j = entry-left rows (λ (row : HeldEntry (List ℕ)). same_id8 row.0 k && same_numbers row.1 i) id j (same_id8 id k && same_numbers j i) (λ row e.
     λ n. same_id8 (id-true row.0 id (first (same_id8 row.0 id) (same_numbers row.1 j) e) n) k && same_numbers (same_path-true row.1 j (second (same_id8 row.0 id) (same_numbers row.1 j) e) n) i)

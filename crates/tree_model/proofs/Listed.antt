@@ -11,7 +11,7 @@ use Rattle.zarr_tree.specs.Trees.{Tree}
 use Rattle.zarr_tree.specs.Changes.{is_gone, has_id}
 use Rattle.zarr_tree.specs.declared.lists.Touched.{Touched}
 use Rattle.zarr_tree.specs.Touched.{Touches, lists, lists_index, lists_chunk}
-use Rattle.zarr_tree.specs.Held.{Held, Rows, Entry, meta_in, nodes_over, changes_of, ids_of, indices_of, indices_in_order, touched}
+use Rattle.zarr_tree.specs.Held.{Held, Rows, HeldEntry, meta_in, nodes_over, changes_of, ids_of, indices_of, indices_in_order, touched}
 use Rattle.zarr_tree.proofs.Apply.{id-true}
 use Rattle.zarr_tree.proofs.Ordered.{lists-in_order, lists_index-in_order}
 use Rattle.zarr_tree.proofs.Listing.{touched-law}
@@ -58,7 +58,7 @@ rows-ids : (f : Id8 → List (List ℕ)) (es : Rows) → map (λ (row : List ℕ
 rows-ids f [] = refl
 rows-ids f (e ∷ es) = ap (λ (xs : List ArrayChunks). record { node = e.1.id; chunks = f e.1.id } ∷ xs) (rows-ids f es)
 
-pub found_chunks : (chunks : List (Entry (List ℕ))) (es : Rows) (id : Id8) (i : List ℕ)
+pub found_chunks : (chunks : List (HeldEntry (List ℕ))) (es : Rows) (id : Id8) (i : List ℕ)
     → lists_chunk (map (λ id. record { node = id; chunks = indices_in_order (indices_of chunks id) }) (ids_of is_array (filter (λ row. has_chunks chunks row.1.id) es))) id i
     ≡ lists_chunk (chunks_where chunks es) id i
 found_chunks chunks es id i =

@@ -12,7 +12,7 @@ use Rattle.zarr_tree.specs.Nodes.{Node, same_numbers}
 use Rattle.zarr_tree.specs.Edits.{Drop}
 use Rattle.zarr_tree.specs.Changes.{Changes, has_id, has_id_within, with_meta, with_entry}
 use Rattle.zarr_tree.specs.Touched.{lists}
-use Rattle.zarr_tree.specs.Held.{Held, Entry, changes_of}
+use Rattle.zarr_tree.specs.Held.{Held, HeldEntry, changes_of}
 use Rattle.tree_model.specs.inside.Entering.{entered, ids_within}
 use Rattle.zarr_tree.proofs.Apply.{id-true}
 use Rattle.tree_model.proofs.Finding.{ids_listed}
@@ -39,12 +39,12 @@ module _ (h : Lists) (n : Node) where
   pub entry_entered : (j : List ℕ) (entry : Option (List ℕ)) → told (record h { chunks = (n.id, j, entry) ∷ h.chunks }) ≡ with_entry (told h) j (Some entry) (Some n)
   entry_entered j entry = λ i. record (told h) { chunks = λ id k. entry-first h.chunks n.id j entry id k i }
 
-  pub entry_removed : (j : List ℕ) → told (record h { chunks = filter (λ (row : Entry (List ℕ)). not (same_id8 row.0 n.id && same_numbers row.1 j)) h.chunks }) ≡ with_entry (told h) j None (Some n)
+  pub entry_removed : (j : List ℕ) → told (record h { chunks = filter (λ (row : HeldEntry (List ℕ)). not (same_id8 row.0 n.id && same_numbers row.1 j)) h.chunks }) ≡ with_entry (told h) j None (Some n)
   entry_removed j = λ i. record (told h) { chunks = λ id k. chunk-left h.chunks n.id j id k i }
 
 -- the entries that are left, where the one for a chunk goes
-abbrev pub left_entries : List (Entry (List ℕ)) → Id8 → (index : List ℕ) → List (Entry (List ℕ))
-left_entries rows id j = filter (λ (row : Entry (List ℕ)). not (same_id8 row.0 id && same_numbers row.1 j)) rows
+abbrev pub left_entries : List (HeldEntry (List ℕ)) → Id8 → (index : List ℕ) → List (HeldEntry (List ℕ))
+left_entries rows id j = filter (λ (row : HeldEntry (List ℕ)). not (same_id8 row.0 id && same_numbers row.1 j)) rows
 
 pub is_copied : (o : Option (Bor Node)) → is_some (option_copied o) ≡ is_some o
 is_copied None = refl
@@ -73,8 +73,8 @@ left_nodes nodes p = retain_keys nodes (λ q. not (is_within p q))
 abbrev pub left_metas : Metas → List Id8 → Metas
 left_metas rows ids = filter (λ (row : Id8 × Meta). not (lists ids row.0)) rows
 
-abbrev pub left_chunks : List (Entry (List ℕ)) → List Id8 → List (Entry (List ℕ))
-left_chunks rows ids = filter (λ (row : Entry (List ℕ)). not (lists ids row.0)) rows
+abbrev pub left_chunks : List (HeldEntry (List ℕ)) → List Id8 → List (HeldEntry (List ℕ))
+left_chunks rows ids = filter (λ (row : HeldEntry (List ℕ)). not (lists ids row.0)) rows
 
 -- the texts that are left
 pub texts_filtered : (ids : List Id8) (rows : Metas) → texts (filter (λ (row : Id8 × Meta). not (lists ids row.0)) rows) ≡ filter (λ (row : Id8 × List ℕ). not (lists ids row.0)) (texts rows)
@@ -88,10 +88,10 @@ texts_filtered ids (row ∷ rows) = by_test (lists ids row.0) (texts_filtered id
     by_test false rest = ap (λ (x : List (Id8 × List ℕ)). (row.0, row.1.text) ∷ x) rest
 
 -- the node at a path, and all beneath it, taken away
-pub dropped_within : (h : Lists) (own under added : FinMap path_cmp Node) (p : List ℕ) (ids dropped : List Id8) (before after : Metas) (chunks : List (Entry (List ℕ)))
+pub dropped_within : (h : Lists) (own under added : FinMap path_cmp Node) (p : List ℕ) (ids dropped : List Id8) (before after : Metas) (chunks : List (HeldEntry (List ℕ)))
     → ids ≡ ids_within p (entries under) → ((id : Id8) → lists dropped id ≡ (lists h.dropped id || (has_id id (get under p) && has_id id (get own p))))
     → added ≡ retain_keys h.added (λ q. not (is_within p q)) → h.metas ≡ texts before → after ≡ filter (λ (row : Id8 × Meta). not (lists ids row.0)) before
-    → chunks ≡ filter (λ (row : Entry (List ℕ)). not (lists ids row.0)) h.chunks
+    → chunks ≡ filter (λ (row : HeldEntry (List ℕ)). not (lists ids row.0)) h.chunks
     → told (record { dropped = dropped; added = added; metas = texts after; chunks = chunks }) ≡ entered (told h) own under (Drop p)
 dropped_within h own under added p ids dropped before after chunks within out left was kept held = λ i. record {
   dropped = λ id. out id i;
@@ -110,5 +110,5 @@ dropped_within h own under added p ids dropped before after chunks within out le
 
     chunks_left : (id : Id8) (j : List ℕ) → (told (record { dropped = dropped; added = added; metas = texts after; chunks = chunks })).chunks id j ≡ cond (has_id_within under p id) None ((told h).chunks id j)
     chunks_left id j =
-        ap (λ (x : List (Entry (List ℕ))). (told (record h { chunks = x })).chunks id j) held
+        ap (λ (x : List (HeldEntry (List ℕ))). (told (record h { chunks = x })).chunks id j) held
         ∙ chunks-left h.chunks ids id j ∙ ap (λ b. cond b None ((told h).chunks id j)) (listed id)

@@ -1,5 +1,6 @@
 -- What the values of the code stand for. (Own; the definitions are those of `zarr_tree`.)
-use Rattle.std.specs.Prelude.{◌≡◌, ℕ, List, [], ◌∷◌, map, if◌then◌else◌, Option, Some, None, Result, Ok, Err}
+use Rattle.std.specs.Prelude.{◌≡◌, ℕ, List, [], ◌∷◌, map, if◌then◌else◌}
+use Rattle.std.specs.Prelude.{Option, Some, None, Result, Ok, Err}
 use Rattle.std.specs.FinMap.{FinMap, get}
 use Rattle.zarr_path.specs.Paths.{path_cmp, is_within}
 use Rattle.zarr_tree.specs.declared.edit.EditFault.{EditFault}
@@ -44,24 +45,35 @@ tree_with nodes = record { nodes = nodes; chunk = λ q j. None }
 
 -- changes, whose lists have the bytes of chunks themselves
 abbrev pub held_of : ChangeLists → Held (List ℕ)
-held_of c = record { dropped = c.dropped; added = c.added; metas = map (λ row. (row.0, row.1.text)) c.metas.items; chunks = c.chunks.items }
+held_of c = record {
+  dropped = c.dropped;
+  added = c.added;
+  metas = map (λ row. (row.0, row.1.text)) c.metas.items;
+  chunks = c.chunks.items;
+}
 
 abbrev pub changes_of : ChangeLists → Changes
 changes_of c = changes_held Some (held_of c)
 
--- a tree under changes: its nodes are listed, and a chunk is looked for in the changes, and then in the tree
+-- a tree under changes: its nodes are listed, and a chunk is looked for in
+-- the changes, and then in the tree
 abbrev pub under_of : Under → Tree
-under_of u = record { nodes = u.nodes; chunk = λ p i. chunk_of (changes_of u.changes.now).chunks (tree_of u.tree.now) p i (get u.nodes p) }
+under_of u = record {
+  nodes = u.nodes;
+  chunk = λ p i. chunk_of (changes_of u.changes.now).chunks
+      (tree_of u.tree.now) p i (get u.nodes p);
+}
 
--- the edit is done as its definition says, or refused for its reason, and then the tree stays; it also stays where memory
--- runs out, which may come instead
+-- the edit is done as its definition says, or refused for its reason, and then the tree stays; it
+-- also stays where memory runs out, which may come instead
 abbrev pub Takes : (before : Tree) → Edit → Result (Unit {0}) EditFault → (after : Tree) → Type 0
 Takes t e (Ok done) u = change t e ≡ Ok u
 Takes t e (Err NoMemory) u = u ≡ t
 Takes t e (Err fault) u = (change t e ≡ Err fault) × (u ≡ t)
 
 -- and so with one more edit in changes of a tree
-abbrev pub Extends : (before : Changes) → Tree → Edit → Result (Unit {0}) EditFault → (after : Changes) → Type 0
+abbrev pub Extends : (before : Changes) → Tree → Edit → Result (Unit {0}) EditFault
+    → (after : Changes) → Type 0
 Extends c t e (Ok done) d = extend c t e ≡ Ok d
 Extends c t e (Err NoMemory) d = d ≡ c
 Extends c t e (Err fault) d = (extend c t e ≡ Err fault) × (d ≡ c)

@@ -7,7 +7,7 @@ ghost use Rattle.zarr_tree.specs.Rows.{node_found};
 ghost use Rattle.tree_model.specs.inside.Lengths.{length_in, length_at};
 
 use zarr_grid::{chunk_bytes, in_grid};
-use zarr_meta::View;
+use zarr_meta::MetaView;
 use zarr_path::Index;
 use zarr_tree::{EditFault, Found, Node, grid_law};
 
@@ -16,7 +16,7 @@ fn length_in(found: Found<'_>, index: &Index) -> Result<u64, EditFault>
     ensures { result ≡ length_in index.now (array_in (node_found found.entry).text) }
 {
     grid_law();
-    let View::Array(array) = &found.meta.view else {
+    let MetaView::Array(array) = &found.meta.view else {
         return Err(EditFault::NotArray);
     };
     if !in_grid(array.shape.as_slice(), array.chunks.as_slice(), index) {

@@ -3,18 +3,18 @@
 ghost use Rattle.std.specs.Prelude.{◌≡◌};
 ghost use Rattle.zarr_tree.specs.Nodes.{is_group, is_array};
 
-use zarr_meta::{Meta, View};
+use zarr_meta::{Meta, MetaView};
 
 /// Whether this is the metadata of a group.
 pub fn is_group(meta: &Meta) -> bool
     ensures { result ≡ is_group meta.now.text }
 {
-    matches!(meta.view, View::Group)
+    matches!(meta.view, MetaView::Group)
 }
 
 /// Whether this is the metadata of an array. What isn't a group's is.
 pub fn is_array(meta: &Meta) -> bool
     ensures { result ≡ is_array meta.now.text }
 {
-    matches!(meta.view, View::Array(_))
+    matches!(meta.view, MetaView::Array(_))
 }

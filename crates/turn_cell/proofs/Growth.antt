@@ -10,7 +10,7 @@ use mathlib.Core.Logic.{dite}
 use Rattle.turn_cell.specs.declared.known.Known.{Known}
 use Rattle.turn_cell.specs.declared.known.Owners.{Owners}
 use Rattle.turn_cell.specs.Owners.{IsOwner, AreApart, Adjoins, all_owners, no_owners, lower_part, upper_part, united}
-use Rattle.turn_cell.specs.Logs.{Follows, Grows, longer, nothing}
+use Rattle.turn_cell.specs.SeenJournals.{Follows, Grows, longer, nothing}
 use Rattle.turn_cell.specs.Turns.{AreJoined}
 
 module _ {E : Type 0} where

@@ -11,7 +11,7 @@ use Rattle.turn_cell.specs.declared.known.Known.{Known}
 use Rattle.turn_cell.specs.declared.known.Owners.{Owners}
 use Rattle.turn_cell.specs.declared.known.Sight.{Sight}
 use Rattle.turn_cell.specs.Owners.{IsOwner, Adjoins, lower_part, upper_part}
-use Rattle.turn_cell.specs.Logs.{Follows, Grows, starting, joined, nothing}
+use Rattle.turn_cell.specs.SeenJournals.{Follows, Grows, starting, joined, nothing}
 use Rattle.turn_cell.specs.Hands.{hands}
 use Rattle.turn_cell.specs.Turns.{plain, AllApart, Agrees, Home, Out, Kept, took, gave, looked}
 use Rattle.turn_cell.proofs.Growth.{in_lower, in_upper, one_of, narrower, nothing_more, grown, compared, both_follow, nothing_joined}

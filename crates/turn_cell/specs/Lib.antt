@@ -1,5 +1,5 @@
 pub mod Owners
-pub mod Logs
+pub mod SeenJournals
 pub mod Hands
 pub mod Passes
 pub mod Turns

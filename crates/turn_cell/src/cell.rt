@@ -1,8 +1,8 @@
 //! The cell and the calls on it.
 ghost use Rattle.std.specs.Prelude.{◌≡◌, ℕ, ◌<◌, ◌≤◌, [], ◌∷◌, true, false, Some, None, IfOk, IfErr, IfSome, IfNone};
 
+use crate::journaled::Journaled;
 use crate::known::Sight;
-use crate::logged::Logged;
 use crate::pass::{Pass, Token};
 use crate::rule::{Both, Cut, Give, Look, Parts, Take, Turns};
 use atomic_table::Table;
@@ -10,6 +10,7 @@ use std::alloc::{AllocError, Global};
 use std::marker::Brand;
 use std::snapshot::Snapshot;
 use std::sync::Wait;
+use std::sync::atomic::{AtomicU64, Ordering};
 use std::thread::Parker;
 
 // The cell's one word says whether a pass has the turn.
@@ -22,14 +23,16 @@ const TAKEN: u64 = 1;
 /// Threads share it by reference. Whoever has a [`Pass`] of it may `take` the value, change it and `give` it back; no
 /// other pass has the value in between.
 #[derive(Drop)]
-pub struct TurnCell<T: Logged> {
+pub struct TurnCell<T: Journaled> {
     pub(crate) table: Table<Option<T>, Sight<T::Entry>, Snapshot<T>, Turns, Global>,
+    // How many callers sleep, or are about to. Nobody is woken where none does: a wake is a call of the system.
+    waiting: AtomicU64,
     ghost sized: { (table.shared.table_id.words ≡ 1) × (table.shared.table_id.slots ≡ 1) },
 }
 
-impl<T: Logged> TurnCell<T> {
+impl<T: Journaled> TurnCell<T> {
     ghost use Rattle.turn_cell.specs.Owners.{IsOwner, Adjoins, all_owners, lower_part, upper_part};
-    ghost use Rattle.turn_cell.specs.Logs.{Follows, Grows, starting, joined};
+    ghost use Rattle.turn_cell.specs.SeenJournals.{Follows, Grows, starting, joined};
     ghost use Rattle.turn_cell.specs.Passes.{known, IsPassOf};
 
     /// A cell with this value. The pass has seen the value's journal and count, and it has all owner numbers. Where there
@@ -46,7 +49,10 @@ impl<T: Logged> TurnCell<T> {
             Err(value) => return Err((value, AllocError)),
         };
         match Table::new(alloc, &[FREE], slots, &about) {
-            Ok((table, seat)) => Ok((TurnCell { table }, Token { seat })),
+            Ok((table, seat)) => {
+                let waiting = AtomicU64::new(0);
+                Ok((TurnCell { table, waiting }, Token { seat }))
+            }
             Err(refused) => Err((value_of(refused.slots, &about), AllocError)),
         }
     }
@@ -144,9 +150,17 @@ impl<T: Logged> TurnCell<T> {
             if let Some(value) = self.try_take(pass) {
                 return value;
             }
-            self.table.shared.park(rt, 0, TAKEN as u32);
+            self.wait(rt);
         }
         unreachable!()
+    }
+
+    // Sleeps while the turn is taken, or returns at once. Who gives the turn back meanwhile either finds that someone waits, or has
+    // freed it before this looks.
+    fn wait<R: Wait>(&self, rt: &R) {
+        self.waiting.fetch_add(1, Ordering::SeqCst);
+        self.table.shared.park(rt, 0, TAKEN as u32);
+        self.waiting.fetch_sub(1, Ordering::SeqCst);
     }
 
     /// Gives the value and the turn back, and wakes one caller that waits for the turn, if there is one.
@@ -169,7 +183,9 @@ impl<T: Logged> TurnCell<T> {
             unreachable!();
         };
         shared.store::<Give>(&mut pass.seat, 0, FREE);
-        shared.wake_one(0);
+        if self.waiting.load(Ordering::SeqCst) > 0 {
+            shared.wake_one(0);
+        }
     }
 
     /// Takes the value for good, with the promise of `take`. Where the pass has all owner numbers, the value's journal is
@@ -185,7 +201,8 @@ impl<T: Logged> TurnCell<T> {
         ensures count { (known pass).count ≤ T.count result }
         ensures whole { (known pass).owners ≡ all_owners → T.journal result ≡ (known pass).journal }
     {
-        let TurnCell { table } = self;
+        let TurnCell { table, waiting } = self;
+        drop(waiting);
         let Token { seat } = pass;
         let mut closed = table.close_with(seat);
         wait_unless_free(rt, closed.word(0));

@@ -10,12 +10,12 @@
 #![tactic(auto)]
 
 mod cell;
+mod journaled;
 mod known;
-mod logged;
 mod pass;
 mod rule;
 
 pub use cell::TurnCell;
+pub use journaled::Journaled;
 pub use known::{Known, Owners};
-pub use logged::Logged;
 pub use pass::{Pass, Token};

@@ -2,8 +2,8 @@
 ghost use Rattle.std.specs.Prelude.{◌≡◌};
 ghost use Rattle.turn_cell.specs.Hands.{hands};
 
+use crate::journaled::Journaled;
 use crate::known::Sight;
-use crate::logged::Logged;
 use atomic_table::Seat;
 
 /// What one caller knows of a cell of a `T` whose entries are `E`s. It has no bytes, and may cross threads where a `T`
@@ -18,4 +18,4 @@ pub struct Token<T, E> {
 }
 
 /// A pass of a cell of a `T`. It belongs to one cell, and every call asks for passes of its own cell (`IsPassOf`).
-pub type Pass<T> = Token<T, <T as Logged>::Entry>;
+pub type Pass<T> = Token<T, <T as Journaled>::Entry>;

@@ -1,18 +1,18 @@
 //! The rule of the cell's table, and what its steps tell. These types are for the proofs alone.
 ghost use Rattle.std.specs.Prelude.{ℕ};
 ghost use Rattle.turn_cell.specs.Owners.{lower_part, upper_part};
-ghost use Rattle.turn_cell.specs.Logs.{starting, joined, nothing};
+ghost use Rattle.turn_cell.specs.SeenJournals.{starting, joined, nothing};
 ghost use Rattle.turn_cell.specs.Turns.{Kept, plain, took, gave, looked};
 
+use crate::journaled::Journaled;
 use crate::known::Sight;
-use crate::logged::Logged;
 use atomic_table::{Join, Play, Split, TableRule};
 use std::marker::{Brand, PhantomData};
 use std::snapshot::Snapshot;
 
 pub struct Turns;
 
-impl<T: Logged> TableRule<Option<T>, Sight<T::Entry>, Snapshot<T>> for Turns {
+impl<T: Journaled> TableRule<Option<T>, Sight<T::Entry>, Snapshot<T>> for Turns {
     ghost holds = { λ _. Kept T.journal T.owner T.count };
 
     ghost first = { λ key. plain (starting (T.journal key.value) (T.count key.value)) };
@@ -21,21 +21,21 @@ impl<T: Logged> TableRule<Option<T>, Sight<T::Entry>, Snapshot<T>> for Turns {
 /// The turn was found free and is taken, or it was found taken.
 pub struct Take;
 
-impl<T: Logged> Play<Option<T>, Sight<T::Entry>> for Take {
+impl<T: Journaled> Play<Option<T>, Sight<T::Entry>> for Take {
     ghost then = { took T.journal T.owner T.count };
 }
 
 /// The turn is given back.
 pub struct Give;
 
-impl<T: Logged> Play<Option<T>, Sight<T::Entry>> for Give {
+impl<T: Journaled> Play<Option<T>, Sight<T::Entry>> for Give {
     ghost then = { gave T.journal T.owner T.count };
 }
 
 /// What two passes knew, after they were joined.
 pub struct Look;
 
-impl<T: Logged> Play<Option<T>, Sight<T::Entry>> for Look {
+impl<T: Journaled> Play<Option<T>, Sight<T::Entry>> for Look {
     ghost then = { looked T.journal T.owner T.count };
 }
 

@@ -2,9 +2,11 @@
 use Rattle.std.specs.Prelude.{◌≡◌, ◌⊎◌, ◌≤◌, List, Bool, true, false, IsTrue, Result}
 use Rattle.ice_base.specs.Ends.{Rose}
 use Rattle.object_store.specs.declared.keys.Key.{Key}
-use Rattle.object_store.specs.declared.keys.Key.TheVariants.{Snapshot, Manifest, Txn, Chunk, Branch, Tag, Tombstone, Lease}
+use Rattle.object_store.specs.declared.keys.Key.TheVariants.{Snapshot, Manifest, Txn, Chunk}
+use Rattle.object_store.specs.declared.keys.Key.TheVariants.{Branch, Tag, Tombstone, Lease}
 use Rattle.object_store.specs.declared.events.Op.{Op}
-use Rattle.object_store.specs.declared.events.Op.TheVariants.{Get, PutNew, PutOver, Remove, RemoveAt, List as ListPart}
+use Rattle.object_store.specs.declared.events.Op.TheVariants.{Get, PutNew, PutOver, Remove}
+use Rattle.object_store.specs.declared.events.Op.TheVariants.{RemoveAt, List as ListPart}
 use Rattle.object_store.specs.declared.events.Reply.{Reply}
 use Rattle.object_store.specs.declared.events.StoreFault.{StoreFault}
 use Rattle.object_store.specs.declared.events.Event.{Event}
@@ -15,7 +17,8 @@ use Rattle.store_api.specs.Driving.{Heard}
 use Rattle.two_stores.specs.declared.side.Side.{Side}
 use Rattle.two_stores.specs.Sides.{Both, at_side, other}
 
--- What is still to be done: an outcome; or an operation on a side, the outcome where there is no memory for it, and what follows each reply.
+-- What is still to be done: an outcome; or an operation on a side, the outcome where there is no
+-- memory for it, and what follows each reply.
 pub data PairProg (A : Type 0) : Type 0 where
   Done : A → PairProg A
   Ask : Side → Op → A → (Reply → PairProg A) → PairProg A
@@ -23,7 +26,8 @@ pub data PairProg (A : Type 0) : Type 0 where
 -- a program of the one store, and then what follows its answer
 abbrev pub on_side : {X A : Type 0} → Side → A → (X → PairProg A) → Prog X → PairProg A
 on_side side starved next (Has_done x) = next x
-on_side side starved next (Asks_next op k) = Ask side op starved (λ reply. on_side side starved next (k reply))
+on_side side starved next (Asks_next op k) =
+    Ask side op starved (λ reply. on_side side starved next (k reply))
 
 abbrev pub IsAsk : {A : Type 0} → PairProg A → Type 0
 IsAsk (Done a) = ⊥
@@ -50,9 +54,12 @@ MayAsk (Done a) views = Unit {0}
 MayAsk (Ask side op starved k) views = MayCall (at_side side views) op
 
 -- the operation that comes next was called on its side, and the other side stayed
-abbrev pub AskedBy : {A : Type 0} → PairProg A → Result Reply StoreFault → (old new : Both View) → Type 0
+abbrev pub AskedBy : {A : Type 0} → PairProg A → Result Reply StoreFault
+    → (old new : Both View) → Type 0
 AskedBy (Done a) result old new = ⊥
-AskedBy (Ask side op starved k) result old new = Called (λ reply. reply) op result (at_side side old) (at_side side new) × (at_side (other side) new ≡ at_side (other side) old)
+AskedBy (Ask side op starved k) result old new =
+    Called (λ reply. reply) op result (at_side side old) (at_side side new)
+    × (at_side (other side) new ≡ at_side (other side) old)
 
 -- ---- want of memory
 -- a branch or a tag; each kind is named, so that a new one is asked for
@@ -75,11 +82,13 @@ moves_ref (Remove key why) = is_ref key
 moves_ref (RemoveAt key old why) = is_ref key
 moves_ref (ListPart part) = false
 
--- Behind a reply that has this program next, what is left. Memory may be wanting; but what follows a change of a ref isn't lost so.
+-- Behind a reply that has this program next, what is left. Memory may be wanting; but what follows
+-- a change of a ref isn't lost so.
 abbrev pub Comes : {A : Type 0} → Op → A → (next rest : PairProg A) → Type 0
 Comes op starved next rest = (rest ≡ next) ⊎ ((moves_ref op ≡ false) × (rest ≡ Done starved))
 
--- What a machine that had p to do has left behind a reply. Whether a failed operation was done isn't known to it.
+-- What a machine that had p to do has left behind a reply. Whether a failed
+-- operation was done isn't known to it.
 abbrev pub Took : {A : Type 0} → PairProg A → Reply → PairProg A → Type 0
 Took (Done a) reply q = ⊥
 Took (Ask side op starved k) reply q = Heard (λ r. Comes op starved (k r) q) reply
@@ -90,7 +99,8 @@ Starves (Done a) q = ⊥
 Starves (Ask side op starved k) q = q ≡ Done starved
 
 -- ---- steps of machines
--- A step with an operation: this caller's own event was made on this side, whose faults rose where it failed; the other side stayed.
+-- A step with an operation: this caller's own event was made on this side, whose faults rose where
+-- it failed; the other side stayed.
 pub record Acted {A : Type 0} (old new : Both View) (p q : PairProg A) : Type 0 where
   pub side : Side
   pub op : Op
@@ -99,7 +109,8 @@ pub record Acted {A : Type 0} (old new : Both View) (p q : PairProg A) : Type 0 
   pub reply : Reply
   pub asks : p ≡ Ask side op starved next
   pub fits : Fits op reply
-  pub made : IsTrue (at_side side old).caller.tells → Makes (at_side side old).caller op reply (at_side side old).seen (at_side side new).seen
+  pub made : IsTrue (at_side side old).caller.tells
+      → Makes (at_side side old).caller op reply (at_side side old).seen (at_side side new).seen
   pub rose : has_failed reply ≡ true → Rose (at_side side old).faults (at_side side new).faults
   pub stays : at_side (other side) new ≡ at_side (other side) old
   pub comes : Comes op starved (next reply) q
@@ -111,33 +122,45 @@ pub record Starved {A : Type 0} (old new : Both View) (p q : PairProg A) : Type 
   pub starved : A
   pub next : Reply → PairProg A
   pub asks : p ≡ Ask side op starved next
-  pub waits : IsTrue (at_side side old).caller.tells → Waits (at_side side old).caller (at_side side old).seen (at_side side new).seen
+  pub waits : IsTrue (at_side side old).caller.tells
+      → Waits (at_side side old).caller (at_side side old).seen (at_side side new).seen
   pub stays : at_side (other side) new ≡ at_side (other side) old
   pub ended : q ≡ Done starved
 
--- One step of a machine that had p to do and has q now. The callers stay, and the faults of the stores never fall.
+-- One step of a machine that had p to do and has q now. The callers stay, and the
+-- faults of the stores never fall.
 pub record PairSteps {A : Type 0} (old new : Both View) (p q : PairProg A) : Type 0 where
   pub same : (side : Side) → (at_side side new).caller ≡ (at_side side old).caller
   pub faults : (side : Side) → (at_side side old).faults ≤ (at_side side new).faults
   pub went : Acted old new p q ⊎ Starved old new p q
 
 -- ---- weakest preconditions, over both journals
--- One's own step on a side, with this reply, which leaves the other side as it is. Of a store that doesn't tell its journal it is known alone that
--- replies fit.
-pub record StepsOn (by : Both Caller) (side : Side) (op : Op) (reply : Reply) (old new : Both (List Event)) : Type 0 where
+-- One's own step on a side, with this reply, which leaves the other side as it is. Of a store that
+-- doesn't tell its journal it is known alone that replies fit.
+pub record StepsOn (by : Both Caller) (side : Side) (op : Op) (reply : Reply)
+    (old new : Both (List Event)) : Type 0 where
   pub fits : Fits op reply
-  pub made : IsTrue (at_side side by).tells → Makes (at_side side by) op reply (at_side side old) (at_side side new)
+  pub made : IsTrue (at_side side by).tells
+      → Makes (at_side side by) op reply (at_side side old) (at_side side new)
   pub stays : at_side (other side) new ≡ at_side (other side) old
 
--- P, a fact on a side, both journals and an operation there, holds of each operation that the program comes to, whatever others do.
-unfoldable pub KeepsPair : {A : Type 0} → (Side → Both (List Event) → Op → Type 0) → Both Caller → PairProg A → Both (List Event) → Type 0
+-- P, a fact on a side, both journals and an operation there, holds of each operation that the
+-- program comes to, whatever others do.
+unfoldable pub KeepsPair : {A : Type 0} → (Side → Both (List Event) → Op → Type 0) → Both Caller
+    → PairProg A → Both (List Event) → Type 0
 KeepsPair P by (Done a) seen = Unit {0}
-KeepsPair P by (Ask side op starved next) seen = P side seen op × ((reply : Reply) (new : Both (List Event)) → StepsOn by side op reply seen new → KeepsPair P by (next reply) new)
+KeepsPair P by (Ask side op starved next) seen = P side seen op
+    × ((reply : Reply) (new : Both (List Event)) → StepsOn by side op reply seen new
+    → KeepsPair P by (next reply) new)
 
--- Q, a fact on an outcome and both journals, holds of whatever the program ends with, also where memory is wanting, whatever others do.
-unfoldable pub LeadsPair : {A : Type 0} → (A → Both (List Event) → Type 0) → Both Caller → PairProg A → Both (List Event) → Type 0
+-- Q, a fact on an outcome and both journals, holds of whatever the program ends with, also where
+-- memory is wanting, whatever others do.
+unfoldable pub LeadsPair : {A : Type 0} → (A → Both (List Event) → Type 0) → Both Caller
+    → PairProg A → Both (List Event) → Type 0
 LeadsPair Q by (Done a) seen = Q a seen
-LeadsPair Q by (Ask side op starved next) seen = Q starved seen × ((reply : Reply) (new : Both (List Event)) → StepsOn by side op reply seen new → (moves_ref op ≡ false → Q starved new) × LeadsPair Q by (next reply) new)
+LeadsPair Q by (Ask side op starved next) seen = Q starved seen
+    × ((reply : Reply) (new : Both (List Event)) → StepsOn by side op reply seen new
+    → (moves_ref op ≡ false → Q starved new) × LeadsPair Q by (next reply) new)
 
 -- ---- whose failure is told
 -- the outcome where memory is wanting from here on tells a failure of this side
@@ -145,12 +168,20 @@ abbrev pub dooms : {A : Type 0} → (Side → A → Bool) → Side → PairProg 
 dooms blames side (Done a) = blames side a
 dooms blames side (Ask on op starved next) = blames side starved
 
--- `blames` says of which outcomes tell a failure of a side: it is told there alone where an operation on that side failed.
+-- `blames` says of which outcomes tell a failure of a side: it is told there alone where an
+-- operation on that side failed.
 unfoldable pub IsFair : {A : Type 0} → (Side → A → Bool) → PairProg A → Type 0
 IsFair blames (Done a) = Unit {0}
 IsFair blames (Ask on op starved next) =
-    (reply : Reply) → Fits op reply → ((side : Side) → dooms blames side (next reply) ≡ true → (blames side starved ≡ true) ⊎ ((side ≡ on) × (has_failed reply ≡ true))) × IsFair blames (next reply)
+    (reply : Reply) → Fits op reply
+    → ((side : Side) → dooms blames side (next reply) ≡ true
+    → (blames side starved ≡ true) ⊎ ((side ≡ on) × (has_failed reply ≡ true)))
+    × IsFair blames (next reply)
 
--- from p, what was left before, to q: a failure of a side is bound to be told only where it was before, or where that side's faults rose
-abbrev pub BlamesSide : {A : Type 0} → (Side → A → Bool) → (p q : PairProg A) → (old new : Both View) → Type 0
-BlamesSide blames p q old new = (side : Side) → dooms blames side q ≡ true → (dooms blames side p ≡ true) ⊎ Rose (at_side side old).faults (at_side side new).faults
+-- from p, what was left before, to q: a failure of a side is bound to be told only where it was
+-- before, or where that side's faults rose
+abbrev pub BlamesSide : {A : Type 0} → (Side → A → Bool) → (p q : PairProg A)
+    → (old new : Both View) → Type 0
+BlamesSide blames p q old new =
+    (side : Side) → dooms blames side q ≡ true
+    → (dooms blames side p ≡ true) ⊎ Rose (at_side side old).faults (at_side side new).faults

@@ -28,6 +28,9 @@ callers_of views = pair_of (views.from.caller) (views.to.caller)
 abbrev pub seen_of : Both View → Both (List Event)
 seen_of views = pair_of (views.from.seen) (views.to.seen)
 
--- From old to new, others made good events, on either side. Of a store that doesn't tell its journal nothing is said.
+-- From old to new, others made good events, on either side. Of a store that doesn't
+-- tell its journal nothing is said.
 abbrev pub OthersCame : Both Caller → (old new : Both (List Event)) → Type 0
-OthersCame by old new = (side : Side) → IsTrue (at_side side by).tells → Waits (at_side side by) (at_side side old) (at_side side new)
+OthersCame by old new =
+    (side : Side) → IsTrue (at_side side by).tells
+    → Waits (at_side side by) (at_side side old) (at_side side new)

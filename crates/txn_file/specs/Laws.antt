@@ -15,12 +15,16 @@ OrderedLaw = (file : List ℕ) (log : TxnFile) → txn_of file ≡ Ok log → Is
 
 -- the one file of a log, if it isn't too long, stands for the log
 abbrev pub RoundTripLaw : Type 0
-RoundTripLaw = (log : TxnFile) → IsLog log → IsOrdered log → length (log_file log) ≤ file_limit → txn_of (log_file log) ≡ Ok log
+RoundTripLaw =
+    (log : TxnFile) → IsLog log → IsOrdered log → length (log_file log) ≤ file_limit
+    → txn_of (log_file log) ≡ Ok log
 
 -- a log can be written exactly where its lists stand in the order of what changes touch
 pub record TouchedLaw : Type 0 where
-  pub writable : (id : Id12) (s : Touched) → touched.IsOrdered s → IsOrdered (record { id = id; lists = s })
-  pub listed : (id : Id12) (s : Touched) → IsOrdered (record { id = id; lists = s }) → touched.IsOrdered s
+  pub writable : (id : Id12) (s : Touched) → touched.IsOrdered s
+      → IsOrdered (record { id = id; lists = s })
+  pub listed : (id : Id12) (s : Touched) → IsOrdered (record { id = id; lists = s })
+      → touched.IsOrdered s
 
 -- the file of a log is bytes
 abbrev pub BytesLaw : Type 0

@@ -6,7 +6,8 @@ use Rattle.ice_ids.specs.Text.{IsId8, IsId12}
 use Rattle.flat_tables.specs.declared.header.Kind.TheVariants as kinds
 use Rattle.flat_tables.specs.Header.{header}
 use Rattle.flat_tables.specs.Rows.{Ascends}
-use Rattle.flat_tables.specs.Layout.{Part, Block, offset_to, vector_block, tables_block, table_block, payload}
+use Rattle.flat_tables.specs.Layout.{Part, Block, offset_to, vector_block}
+use Rattle.flat_tables.specs.Layout.{tables_block, table_block, payload}
 use Rattle.file_fields.specs.Fields.{id_key, index_key, id8_part, id12_part, index_part, IsIndex}
 use Rattle.zarr_tree.specs.declared.lists.ArrayChunks.{ArrayChunks}
 use Rattle.txn_file.specs.declared.log.TxnFile.{TxnFile}
@@ -39,8 +40,10 @@ arrays_part arrays = offset_to (tables_block (map array_block arrays))
 -- table TransactionLog
 abbrev pub log_parts : TxnFile → List Part
 log_parts log =
-    id12_part log.id ∷ ids_part log.lists.new_groups ∷ ids_part log.lists.new_arrays ∷ ids_part log.lists.deleted_groups ∷ ids_part log.lists.deleted_arrays
-    ∷ ids_part log.lists.updated_arrays ∷ ids_part log.lists.updated_groups ∷ arrays_part log.lists.updated_chunks ∷ []
+    id12_part log.id ∷ ids_part log.lists.new_groups ∷ ids_part log.lists.new_arrays
+    ∷ ids_part log.lists.deleted_groups ∷ ids_part log.lists.deleted_arrays
+    ∷ ids_part log.lists.updated_arrays ∷ ids_part log.lists.updated_groups
+    ∷ arrays_part log.lists.updated_chunks ∷ []
 
 unfoldable pub log_block : TxnFile → Block
 log_block log = table_block (log_parts log)

@@ -1,5 +1,5 @@
--- What the payload of a transaction log says. (Icechunk specification version 1, "Transaction log"; which slot has what,
--- and that lists stand in order, is own.)
+-- What the payload of a transaction log says. (Icechunk specification version 1, "Transaction log";
+-- which slot has what, and that lists stand in order, is own.)
 use Rattle.std.specs.Prelude.{ℕ, List, [], Result, Ok}
 use Rattle.ice_ids.specs.declared.Id8.{Id8}
 use Rattle.flat_tables.specs.declared.header.Kind.TheVariants as kinds

@@ -22,7 +22,11 @@ late_of s = s.late
 
 -- The caller is the store's beneath, and is told nothing.
 abbrev pub view_of : Untold → View
-view_of s = record { caller = record (sole (client_of (memory_of s))) { tells = false }; seen = []; faults = 0 }
+view_of s = record {
+  caller = record (sole (client_of (memory_of s))) { tells = false };
+  seen = [];
+  faults = 0;
+}
 
 -- opens a session to write on `main`, which draws these ids
 abbrev pub opens_main : AnyIds → Program SessionState

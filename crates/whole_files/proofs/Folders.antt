@@ -3,9 +3,9 @@ use Rattle.std.proofs.Common.{◌≡◌, ◌≢◌, ◌∙◌, ℕ, suc, ◌<◌
 use Rattle.std.specs.Prelude.{codes}
 use Rattle.std.specs.Str.Pattern.{RFindsChar, SplitsAroundMatch}
 use Rattle.std.proofs.lemmas.Str.Pattern.{NoCharPasses-char, drop_at_char}
-use Rattle.folder.specs.Files.{IsName, IsIn}
+use Rattle.folder.specs.Files.{IsFileName, IsIn}
 
-plain-from : (name : List ℕ) → ((i : ℕ) → i < length name → get_or name i 0 ≢ 47) → IsName name
+plain-from : (name : List ℕ) → ((i : ℕ) → i < length name → get_or name i 0 ≢ 47) → IsFileName name
 plain-from [] plain = tt
 plain-from (byte ∷ name) plain = (plain 0 (omega arith), plain-from name (λ i l. plain (suc i) (omega arith)))
 

@@ -1,5 +1,6 @@
--- The version of a file that may be put over is told by its content (own): the first 8 bytes of SHA-256 (FIPS 180-4) as
--- a number, the most significant byte first. What is put once has the version 0.
+-- The version of a file that may be put over is told by its content (own): the first
+-- 8 bytes of SHA-256 (FIPS 180-4) as a number, the most significant byte first. What
+-- is put once has the version 0.
 use Rattle.std.specs.Prelude.{ℕ, List, take}
 use Rattle.std.specs.Int.{w64, from_be_bytes}
 use Rattle.sha2.specs.Sha256.{sha256}

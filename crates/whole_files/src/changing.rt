@@ -3,8 +3,8 @@
 ghost use Rattle.std.specs.Prelude.{◌≡◌, None, Some, IfOk, IfSome, OnOk, IsTrue};
 ghost use Rattle.folder.specs.Files.{SameBut, SameButTwo, PlacesOver, Removes, IsIn, NoLooser, LooserAt, HasBytes, Leaves, IsChanged, IsPlaced};
 ghost use Rattle.whole_files.specs.Places.{asides_of};
-ghost use Rattle.whole_files.specs.Whole.{SameFiles, OnlyAt, IsOutside, LooserAside, IsLeft, version_at};
-ghost use Rattle.whole_files.specs.Changes.{Makes, Places as PlacesFile, Replaces, RemovesVersion, IsMoved, IsNew, IsOver, IsGone, UnlessFailed};
+ghost use Rattle.whole_files.specs.Whole.{SameFiles, OnlyAt, IsOutside, LooserAside, IsLeft, its_version};
+ghost use Rattle.whole_files.specs.Changes.{MakesFile, PlacesDraft, Replaces, RemovesVersion, IsOtherVersion, IsNew, IsOver, IsGone, UnlessFailed};
 
 use crate::asides::write_aside;
 use crate::known::Known;
@@ -16,17 +16,17 @@ use std::alloc::Global;
 
 /// What came of a change of a version that was to stand at a path.
 #[derive(Clone, Copy, Debug)]
-pub enum Change {
+pub enum VersionChange {
     /// It was made.
     Made,
     /// Another version stands there, or none.
-    Moved(Option<u64>),
+    Other(Option<u64>),
 }
 
 /// The version of the file at a path whose folders are there, if one is there.
 fn version_in<F: Folder>(tree: &F, putting: Putting, path: &str) -> Result<Option<u64>, Trouble>
     ensures { IsTrue F.tells
-        → IfOk result (λ found. found ≡ version_at putting (F.files tree.now path.now)) }
+        → IfOk result (λ found. found ≡ its_version putting (F.files tree.now path.now)) }
 {
     match tree.look(path)? {
         None => Ok(None),
@@ -45,7 +45,7 @@ fn version_before<F: Folder>(
 ) -> Result<Option<u64>, Trouble>
     ensures { IsTrue F.tells
         → IfOk result
-        (λ found. IfSome found (λ version. version_at putting (F.files tree.now path.now)
+        (λ found. IfSome found (λ version. its_version putting (F.files tree.now path.now)
         ≡ Some version)) }
 {
     match putting {
@@ -69,7 +69,7 @@ fn place_file<F: Folder>(
     ensures firm { IsTrue F.tells
         → OnOk result (LooserAt (F.aside draft) (F.loose tree.old) (F.loose tree.new)) }
     ensures placed { IsTrue F.tells
-        → PlacesFile putting (F.written draft) (F.files tree.old path.now)
+        → PlacesDraft putting (F.written draft) (F.files tree.old path.now)
         (F.files tree.new path.now) result }
     ensures files { IsTrue F.tells → SameButTwo path.now (F.aside draft) (F.files tree.old)
         (F.files tree.new) }
@@ -99,7 +99,7 @@ pub fn make_file<F: Folder>(
     bytes: &[u8],
 ) -> Result<Option<u64>, FileFault>
     requires { IsOutside (asides_of places.now) path.now }
-    ensures made { IsTrue F.tells → Makes putting bytes.now (F.files tree.old path.now)
+    ensures made { IsTrue F.tells → MakesFile putting bytes.now (F.files tree.old path.now)
         (F.files tree.new path.now) result }
     ensures files { IsTrue F.tells → OnlyAt (asides_of places.now) path.now (F.files tree.old)
         (F.files tree.new) }
@@ -154,9 +154,9 @@ pub fn replace_file<F: Folder>(
     path: &str,
     bytes: &[u8],
     old: u64,
-) -> Result<Change, FileFault>
+) -> Result<VersionChange, FileFault>
     requires { IsOutside (asides_of places.now) path.now }
-    ensures moved { IfOk result (IsMoved old) }
+    ensures moved { IfOk result (IsOtherVersion old) }
     ensures replaced { IsTrue F.tells → Replaces putting bytes.now old (F.files tree.old path.now)
         (F.files tree.new path.now) result }
     ensures files { IsTrue F.tells → OnlyAt (asides_of places.now) path.now (F.files tree.old)
@@ -172,11 +172,11 @@ pub fn replace_file<F: Folder>(
 {
     let found = file_version(tree, putting, path)?;
     if found != Some(old) {
-        return Ok(Change::Moved(found));
+        return Ok(VersionChange::Other(found));
     }
     let draft = write_aside(tree, places, known, alloc, bytes)?;
     move_over(tree, places.root(), draft, path)?;
-    Ok(Change::Made)
+    Ok(VersionChange::Made)
 }
 
 /// Removes the plain file at a path, and tells whether one was there.
@@ -202,8 +202,8 @@ pub fn remove_version<F: Folder>(
     putting: Putting,
     path: &str,
     old: u64,
-) -> Result<Change, Trouble>
-    ensures moved { IfOk result (IsMoved old) }
+) -> Result<VersionChange, Trouble>
+    ensures moved { IfOk result (IsOtherVersion old) }
     ensures removed { IsTrue F.tells → RemovesVersion putting old (F.files tree.old path.now)
         (F.files tree.new path.now) result }
     ensures files { IsTrue F.tells → SameBut path.now (F.files tree.old) (F.files tree.new) }
@@ -214,11 +214,11 @@ pub fn remove_version<F: Folder>(
 {
     let standing = file_version(tree, putting, path)?;
     if standing != Some(old) {
-        return Ok(Change::Moved(standing));
+        return Ok(VersionChange::Other(standing));
     }
     if remove_file(tree, root, path)? {
-        Ok(Change::Made)
+        Ok(VersionChange::Made)
     } else {
-        Ok(Change::Moved(None))
+        Ok(VersionChange::Other(None))
     }
 }

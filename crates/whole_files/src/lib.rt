@@ -8,7 +8,7 @@ mod places;
 mod reading;
 mod versions;
 
-pub use changing::{Change, make_file, remove_file, remove_version, replace_file};
+pub use changing::{VersionChange, make_file, remove_file, remove_version, replace_file};
 pub use known::Known;
 pub use places::{Places, folder_at};
 pub use reading::{MOST, file_version, in_memory, read_file};

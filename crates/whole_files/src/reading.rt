@@ -1,10 +1,10 @@
 //! Files that are read whole.
 
-ghost use Rattle.std.specs.Prelude.{◌≡◌, ◌≤◌, ◌<◌, Ok, Some, IfOk, IsTrue, MatchResult, length};
+ghost use Rattle.std.specs.Prelude.{◌≡◌, ◌≤◌, ◌<◌, Ok, Some, IfOk, IfErr, IsTrue, MatchResult, length};
 ghost use Rattle.folder.specs.declared.faults.FileFault.TheVariants as FileFault;
 ghost use Rattle.folder.specs.Files.{HasBytes, IsMeasured};
 ghost use Rattle.whole_files.specs.Versions.{version_of};
-ghost use Rattle.whole_files.specs.Whole.{Takes, bytes_at, version_at};
+ghost use Rattle.whole_files.specs.Whole.{Takes, bytes_at, its_version, IsLong, IsToldLong, IsTooMany};
 
 use crate::versions::{Putting, number_of_digest};
 use folder::{Call, Cause, FileFault, Folder, Seen, Trouble, failed};
@@ -33,7 +33,7 @@ fn room_behind(taken: u64, room: usize) -> usize
     usize::try_from(left).unwrap_or(room).min(room)
 }
 
-/// The next bytes of a file behind so many; none at its end.
+/// The next bytes of a file behind so many; none at its end. It is told as too long only where these are more than a file may have.
 fn next_piece<F: Folder>(
     tree: &F,
     file: &mut F::Reading,
@@ -44,6 +44,7 @@ fn next_piece<F: Folder>(
     ensures within { IfOk result (λ count. count ≤ length piece.old) }
     ensures read { IsTrue F.tells
         → IfOk result (λ count. Takes count piece.new (F.rest file.old) (F.rest file.new)) }
+    ensures long { IsTrue F.tells → IfErr result (λ trouble. IsLong trouble → IsTooMany taken) }
 {
     if taken > MOST {
         return Err(failed(Call::Read, Cause::TooLong));
@@ -69,19 +70,21 @@ fn room_for(alloc: Global, size: usize) -> Result<Vec<u8>, AllocError>
     vec![in alloc; 0; size.clamp(1, LONGEST)]
 }
 
-/// The bytes of an open file, which was seen to have so many.
+/// The bytes of an open file, which was seen to have so many. It is told as too long only where it is.
 fn bytes_of<F: Folder>(
     tree: &F,
     file: &mut F::Reading,
     alloc: Global,
     size: usize,
 ) -> Result<Bytes, FileFault>
-    ensures { IsTrue F.tells → IfOk result (λ bytes. bytes ≡ F.rest file.old) }
+    ensures read { IsTrue F.tells → IfOk result (λ bytes. bytes ≡ F.rest file.old) }
+    ensures long { IsTrue F.tells → IfErr result (λ fault. IsToldLong fault
+        → IsTooMany (length (F.rest file.old))) }
 {
     let mut room = room_for(alloc, size)?;
     let piece = room.as_mut_slice();
     let mut bytes = Bytes::from_vec(Vec::with_capacity(alloc, size)?);
-    for _ in 0..TURNS {
+    for turn in 0..TURNS {
         let count = next_piece(tree, file, bytes.len() as u64, piece)?;
         if count == 0 {
             return Ok(bytes);
@@ -91,14 +94,16 @@ fn bytes_of<F: Folder>(
     Err(FileFault::from(failed(Call::Read, Cause::TooLong)))
 }
 
-/// The number by which the content of an open file is known.
+/// The number by which the content of an open file is known. It is told as too long only where it is.
 fn number_of<F: Folder>(tree: &F, file: &mut F::Reading) -> Result<u64, Trouble>
-    ensures { IsTrue F.tells → IfOk result (λ number. number ≡ version_of (F.rest file.old)) }
+    ensures read { IsTrue F.tells → IfOk result (λ number. number ≡ version_of (F.rest file.old)) }
+    ensures long { IsTrue F.tells → IfErr result (λ trouble. IsLong trouble
+        → IsTooMany (length (F.rest file.old))) }
 {
     let mut piece = [0u8; PIECE];
     let mut hasher = Sha256::new();
     let mut taken = 0u64;
-    for _ in 0..TURNS {
+    for turn in 0..TURNS {
         let count = next_piece(tree, file, taken, &mut piece)?;
         if count == 0 {
             return Ok(number_of_digest(hasher.finalize()));
@@ -141,7 +146,7 @@ pub(crate) fn version_seen<F: Folder>(
 ) -> Result<u64, Trouble>
     requires { IsTrue F.tells → IsMeasured seen.now (F.files tree.now path.now) }
     ensures { IsTrue F.tells
-        → IfOk result (λ version. version_at putting (F.files tree.now path.now) ≡ Some version) }
+        → IfOk result (λ version. its_version putting (F.files tree.now path.now) ≡ Some version) }
 {
     match putting {
         Putting::Once => Ok(0),
@@ -159,7 +164,7 @@ pub fn file_version<F: Folder>(
     path: &str,
 ) -> Result<Option<u64>, Trouble>
     ensures { IsTrue F.tells
-        → IfOk result (λ found. found ≡ version_at putting (F.files tree.now path.now)) }
+        → IfOk result (λ found. found ≡ its_version putting (F.files tree.now path.now)) }
 {
     match tree.file(path)? {
         Some(seen) => Ok(Some(version_seen(tree, putting, path, &seen)?)),

@@ -13,9 +13,9 @@ use Rattle.ice_ids.specs.Text.{same_id8, id8_cmp}
 use Rattle.zarr_path.specs.Indices.{index_cmp}
 use Rattle.zarr_tree.specs.Nodes.{Node, same_numbers}
 use Rattle.zarr_tree.specs.Changes as changes
-use Rattle.zarr_tree.specs.Held.{Held, Entry, entry_in, changes_of, nodes_over}
+use Rattle.zarr_tree.specs.Held.{Held, HeldEntry, entry_in, changes_of, nodes_over}
 use Rattle.zarr_tree.proofs.Apply.{id-true, first, second}
-use Rattle.zarr_changes.specs.Edits.{entry_cmp, with_entry, without_entry, with_chunk, without_chunk, lists_key, without_chunks}
+use Rattle.zarr_changes.specs.Edits.{entry_cmp, with_entry, without_entry, placed_chunk, unplaced_chunk, lists_key, without_chunks}
 use Rattle.zarr_changes.specs.Laws.{SetLaw, UnsetLaw, TakenLaw}
 use Rattle.zarr_changes.proofs.IdLaws.{id_total, same_ids}
 use Rattle.zarr_changes.proofs.EditLaws.{same-turned}
@@ -48,7 +48,7 @@ find-filter {A} t p b same (x ∷ xs) = by_test (t x) refl (p x) refl (find-filt
     by_test false e false f rest = rest
 
 -- ---- the chunk that an entry is for
-abbrev is_for : {P : Type 0} → Id8 → List ℕ → Entry P → Bool
+abbrev is_for : {P : Type 0} → Id8 → List ℕ → HeldEntry P → Bool
 is_for id j row = same_id8 row.0 id && same_numbers row.1 j
 
 numbers-true : (x y : List ℕ) → same_numbers x y ≡ true → x ≡ y
@@ -91,54 +91,54 @@ module _ (k : Id8) (i : List ℕ) (id : Id8) (j : List ℕ) where
   turned_order : ordering_then (id8_cmp id k) (index_cmp j i) ≡ ordering_reverse order
   turned_order = (λ t. ordering_then (id_total.antisymm id k t) (index_total.antisymm j i t)) ∙ turned_then (id8_cmp k id) (index_cmp i j)
 
-  its_id : {P : Type 0} (row : Entry P) → is_for id j row ≡ true → row.0 ≡ id
+  its_id : {P : Type 0} (row : HeldEntry P) → is_for id j row ≡ true → row.0 ≡ id
   its_id row e = id-true row.0 id (first (same_id8 row.0 id) (same_numbers row.1 j) e)
 
-  its_index : {P : Type 0} (row : Entry P) → is_for id j row ≡ true → row.1 ≡ j
+  its_index : {P : Type 0} (row : HeldEntry P) → is_for id j row ≡ true → row.1 ≡ j
   its_index row e = numbers-true row.1 j (second (same_id8 row.0 id) (same_numbers row.1 j) e)
 
   -- an entry more
-  pub entry-with : {P : Type 0} (rows : List (Entry P)) (entry : Option P) → entry_in (with_entry rows k i entry) id j ≡ cond same_chunk (Some entry) (entry_in rows id j)
+  pub entry-with : {P : Type 0} (rows : List (HeldEntry P)) (entry : Option P) → entry_in (with_entry rows k i entry) id j ≡ cond same_chunk (Some entry) (entry_in rows id j)
   entry-with {P} rows entry =
-      let it : Entry P = (k, i, entry) in
-      let before : find (is_for id j) (filter (λ (row : Entry P). is_lt (entry_cmp row it)) rows) ≡ cond (is_lt (ordering_reverse order)) (find (is_for id j) rows) None =
-      find-filter (is_for id j) (λ (row : Entry P). is_lt (entry_cmp row it)) (is_lt (ordering_reverse order))
+      let it : HeldEntry P = (k, i, entry) in
+      let before : find (is_for id j) (filter (λ (row : HeldEntry P). is_lt (entry_cmp row it)) rows) ≡ cond (is_lt (ordering_reverse order)) (find (is_for id j) rows) None =
+      find-filter (is_for id j) (λ (row : HeldEntry P). is_lt (entry_cmp row it)) (is_lt (ordering_reverse order))
       (λ row e. ap is_lt ((λ t. ordering_then (id8_cmp (its_id row e t) k) (index_cmp (its_index row e t) i)) ∙ turned_order)) rows in
-      let behind : find (is_for id j) (filter (λ (row : Entry P). is_lt (entry_cmp it row)) rows) ≡ cond (is_lt order) (find (is_for id j) rows) None =
-      find-filter (is_for id j) (λ (row : Entry P). is_lt (entry_cmp it row)) (is_lt order)
+      let behind : find (is_for id j) (filter (λ (row : HeldEntry P). is_lt (entry_cmp it row)) rows) ≡ cond (is_lt order) (find (is_for id j) rows) None =
+      find-filter (is_for id j) (λ (row : HeldEntry P). is_lt (entry_cmp it row)) (is_lt order)
       (λ row e. ap is_lt (λ t. ordering_then (id8_cmp k (its_id row e t)) (index_cmp i (its_index row e t)))) rows in
       let here : is_for id j it ≡ is_eq order = (λ t. same-turned k id t && numbers-turned i j t) ∙ sym tied_same in
-      ap (option_map (λ (row : Entry P). row.2))
-      (find-append (is_for id j) (filter (λ (row : Entry P). is_lt (entry_cmp row it)) rows) (it ∷ filter (λ (row : Entry P). is_lt (entry_cmp it row)) rows)
+      ap (option_map (λ (row : HeldEntry P). row.2))
+      (find-append (is_for id j) (filter (λ (row : HeldEntry P). is_lt (entry_cmp row it)) rows) (it ∷ filter (λ (row : HeldEntry P). is_lt (entry_cmp it row)) rows)
       ∙ (λ t. option_or (before t) (cond (here t) (Some it) (behind t)))
       ∙ between order (Some it) (find (is_for id j) rows))
-      ∙ ap (λ b. option_map (λ (row : Entry P). row.2) (cond b (Some it) (find (is_for id j) rows))) tied_same
+      ∙ ap (λ b. option_map (λ (row : HeldEntry P). row.2) (cond b (Some it) (find (is_for id j) rows))) tied_same
       ∙ outside same_chunk it (find (is_for id j) rows)
     where
-      outside : (b : Bool) (x : Entry P) (o : Option (Entry P)) → option_map (λ (row : Entry P). row.2) (cond b (Some x) o) ≡ cond b (Some x.2) (option_map (λ (row : Entry P). row.2) o)
+      outside : (b : Bool) (x : HeldEntry P) (o : Option (HeldEntry P)) → option_map (λ (row : HeldEntry P). row.2) (cond b (Some x) o) ≡ cond b (Some x.2) (option_map (λ (row : HeldEntry P). row.2) o)
       outside true x o = refl
       outside false x o = refl
 
   -- an entry less
-  pub entry-without : {P : Type 0} (rows : List (Entry P)) → entry_in (without_entry rows k i) id j ≡ cond same_chunk None (entry_in rows id j)
+  pub entry-without : {P : Type 0} (rows : List (HeldEntry P)) → entry_in (without_entry rows k i) id j ≡ cond same_chunk None (entry_in rows id j)
   entry-without {P} rows =
-      ap (option_map (λ (row : Entry P). row.2))
-      (find-filter (is_for id j) (λ (row : Entry P). not (is_for k i row)) (not same_chunk) (λ row e. λ t. not (same_id8 (its_id row e t) k && same_numbers (its_index row e t) i)) rows)
+      ap (option_map (λ (row : HeldEntry P). row.2))
+      (find-filter (is_for id j) (λ (row : HeldEntry P). not (is_for k i row)) (not same_chunk) (λ row e. λ t. not (same_id8 (its_id row e t) k && same_numbers (its_index row e t) i)) rows)
       ∙ outside same_chunk (find (is_for id j) rows)
     where
-      outside : (b : Bool) (o : Option (Entry P)) → option_map (λ (row : Entry P). row.2) (cond (not b) o None) ≡ cond b None (option_map (λ (row : Entry P). row.2) o)
+      outside : (b : Bool) (o : Option (HeldEntry P)) → option_map (λ (row : HeldEntry P). row.2) (cond (not b) o None) ≡ cond b None (option_map (λ (row : HeldEntry P). row.2) o)
       outside true o = refl
       outside false o = refl
 
 -- without the entries of some chunks
-pub entry-out : {P : Type 0} (rows : List (Entry P)) (out : List (Id8 × List ℕ)) (id : Id8) (j : List ℕ)
-    → entry_in (filter (λ (row : Entry P). not (lists_key out row.0 row.1)) rows) id j ≡ cond (lists_key out id j) None (entry_in rows id j)
+pub entry-out : {P : Type 0} (rows : List (HeldEntry P)) (out : List (Id8 × List ℕ)) (id : Id8) (j : List ℕ)
+    → entry_in (filter (λ (row : HeldEntry P). not (lists_key out row.0 row.1)) rows) id j ≡ cond (lists_key out id j) None (entry_in rows id j)
 entry-out {P} rows out id j =
-    ap (option_map (λ (row : Entry P). row.2))
-    (find-filter (is_for id j) (λ (row : Entry P). not (lists_key out row.0 row.1)) (not (lists_key out id j)) (λ row e. λ t. not (lists_key out (its_id id j id j row e t) (its_index id j id j row e t))) rows)
+    ap (option_map (λ (row : HeldEntry P). row.2))
+    (find-filter (is_for id j) (λ (row : HeldEntry P). not (lists_key out row.0 row.1)) (not (lists_key out id j)) (λ row e. λ t. not (lists_key out (its_id id j id j row e t) (its_index id j id j row e t))) rows)
     ∙ outside (lists_key out id j) (find (is_for id j) rows)
   where
-    outside : (b : Bool) (o : Option (Entry P)) → option_map (λ (row : Entry P). row.2) (cond (not b) o None) ≡ cond b None (option_map (λ (row : Entry P). row.2) o)
+    outside : (b : Bool) (o : Option (HeldEntry P)) → option_map (λ (row : HeldEntry P). row.2) (cond (not b) o None) ≡ cond b None (option_map (λ (row : HeldEntry P). row.2) o)
     outside true o = refl
     outside false o = refl
 
@@ -152,7 +152,7 @@ module _ {P : Type 0} (bytes_at : P → Option (List ℕ)) where
   seen_either false x y = refl
 
   set_changes : (h : Held P) (i bytes : List ℕ) (place : P) (there : Option Node) → bytes_at place ≡ Some bytes
-      → changes_of bytes_at (with_chunk h i place there) ≡ changes.with_entry (changes_of bytes_at h) i (Some (Some bytes)) there
+      → changes_of bytes_at (placed_chunk h i place there) ≡ changes.with_entry (changes_of bytes_at h) i (Some (Some bytes)) there
   set_changes h i bytes place None e = refl
   set_changes h i bytes place (Some n) e = λ t. record (changes_of bytes_at h) { chunks = λ id j. at id j t }
     where
@@ -162,7 +162,7 @@ module _ {P : Type 0} (bytes_at : P → Option (List ℕ)) where
           ∙ ap (λ (o : Option (List ℕ)). cond (same_id8 id n.id && same_numbers j i) (Some o) (seen (entry_in h.chunks id j))) e
 
   unset_changes : (h : Held P) (i : List ℕ) (added there : Option Node)
-      → changes_of bytes_at (without_chunk h i added there) ≡ changes.with_entry (changes_of bytes_at h) i (cond (is_some added) None (Some None)) there
+      → changes_of bytes_at (unplaced_chunk h i added there) ≡ changes.with_entry (changes_of bytes_at h) i (cond (is_some added) None (Some None)) there
   unset_changes h i None None = refl
   unset_changes h i (Some m) None = refl
   unset_changes h i None (Some n) = λ t. record (changes_of bytes_at h) { chunks = λ id j. at id j t }

@@ -13,7 +13,7 @@ use Rattle.zarr_tree.specs.Trees.{Tree}
 use Rattle.zarr_tree.specs.Edits.{at_node}
 use Rattle.zarr_tree.specs.Changes.{has_id, has_id_within}
 use Rattle.zarr_tree.specs.Touched.{lists}
-use Rattle.zarr_tree.specs.Held.{Held, Rows, Entry, meta_in, entry_in, nodes_over}
+use Rattle.zarr_tree.specs.Held.{Held, Rows, HeldEntry, meta_in, entry_in, nodes_over}
 use Rattle.zarr_tree.proofs.Apply.{IdWithin, id_within-elim, id_within-intro, id-true, id-refl, both, first, second}
 use Rattle.zarr_tree.proofs.Ordered.{lists-in_order}
 use Rattle.zarr_tree.proofs.FoundRows.{FoundRow, any-row, row-any}
@@ -148,21 +148,21 @@ drop-law {P} bytes_at h t p = λ i. record {
         ∙ mapped (λ (row : Id8 × List ℕ). row.1) (has_id_within (nodes_over h t.nodes) p id) (find (λ (row : Id8 × List ℕ). same_id8 row.0 id) h.metas)
 
     chunks_left : (id : Id8) (j : List ℕ)
-        → option_map (λ (place : Option P). option_and_then bytes_at place) (entry_in (filter (λ (e : Entry P). not (has_id_within (nodes_over h t.nodes) p e.0)) h.chunks) id j)
+        → option_map (λ (place : Option P). option_and_then bytes_at place) (entry_in (filter (λ (e : HeldEntry P). not (has_id_within (nodes_over h t.nodes) p e.0)) h.chunks) id j)
         ≡ cond (has_id_within (nodes_over h t.nodes) p id) None (option_map (λ (place : Option P). option_and_then bytes_at place) (entry_in h.chunks id j))
     chunks_left id j =
-        ap (λ (o : Option (Entry P)). option_map (λ (place : Option P). option_and_then bytes_at place) (option_map (λ (e : Entry P). e.2) o))
-        (find-left (λ (e : Entry P). e.0) (λ (e : Entry P). same_id8 e.0 id && same_numbers e.1 j) (has_id_within (nodes_over h t.nodes) p) id (λ e k. id-true e.0 id (first (same_id8 e.0 id) (same_numbers e.1 j) k)) h.chunks)
+        ap (λ (o : Option (HeldEntry P)). option_map (λ (place : Option P). option_and_then bytes_at place) (option_map (λ (e : HeldEntry P). e.2) o))
+        (find-left (λ (e : HeldEntry P). e.0) (λ (e : HeldEntry P). same_id8 e.0 id && same_numbers e.1 j) (has_id_within (nodes_over h t.nodes) p) id (λ e k. id-true e.0 id (first (same_id8 e.0 id) (same_numbers e.1 j) k)) h.chunks)
         ∙ ap (option_map (λ (place : Option P). option_and_then bytes_at place))
-        (mapped (λ (e : Entry P). e.2) (has_id_within (nodes_over h t.nodes) p id) (find (λ (e : Entry P). same_id8 e.0 id && same_numbers e.1 j) h.chunks))
+        (mapped (λ (e : HeldEntry P). e.2) (has_id_within (nodes_over h t.nodes) p id) (find (λ (e : HeldEntry P). same_id8 e.0 id && same_numbers e.1 j) h.chunks))
         ∙ mapped (λ (place : Option P). option_and_then bytes_at place) (has_id_within (nodes_over h t.nodes) p id) (entry_in h.chunks id j)
 
 -- ---- a node taken away, as the code does it
 pub no_chunks_left : {P : Type 0} (h : Held P) (a b : Id8 → Bool) → h.chunks ≡ [] → chunks_left h a ≡ chunks_left h b
-no_chunks_left {P} h a b e = ap (filter (λ (row : Entry P). not (a row.0))) e ∙ sym (ap (filter (λ (row : Entry P). not (b row.0))) e)
+no_chunks_left {P} h a b e = ap (filter (λ (row : HeldEntry P). not (a row.0))) e ∙ sym (ap (filter (λ (row : HeldEntry P). not (b row.0))) e)
 
 pub same_chunks : {P : Type 0} (h : Held P) (a b : Id8 → Bool) → ((id : Id8) → a id ≡ b id) → chunks_left h a ≡ chunks_left h b
-same_chunks {P} h a b e = λ i. filter (λ (row : Entry P). not (e row.0 i)) h.chunks
+same_chunks {P} h a b e = λ i. filter (λ (row : HeldEntry P). not (e row.0 i)) h.chunks
 
 pub no_texts : {P : Type 0} (h : Held P) (a b : Id8 → Bool) → length h.metas ≡ 0 → texts_left h a ≡ texts_left h b
 no_texts h a b e = none_of h.metas e
@@ -178,7 +178,7 @@ module _ {P : Type 0} (h : Held P) (nodes : FinMap path_cmp Node) (p : List ℕ)
   pub drop_allowed : drop_refusal (nodes_over h nodes) p ≡ None
   drop_allowed = ap (λ (o : Option Node). at_node o (λ m. None)) found
 
-  pub dropped_node : (own : Bool) (ids dropped : List Id8) (added : FinMap path_cmp Node) (metas : List (Id8 × List ℕ)) (chunks : List (Entry P)) → own ≡ has_id n.id (get nodes p)
+  pub dropped_node : (own : Bool) (ids dropped : List Id8) (added : FinMap path_cmp Node) (metas : List (Id8 × List ℕ)) (chunks : List (HeldEntry P)) → own ≡ has_id n.id (get nodes p)
       → dropped ≡ cond own (with_id h.dropped n.id) h.dropped → added ≡ retain_keys h.added (λ q. not (is_within p q)) → metas ≡ texts_left h (lists ids)
       → texts_left h (lists ids) ≡ texts_left h (has_id_within (nodes_over h nodes) p) → chunks ≡ chunks_left h (lists ids) → chunks_left h (lists ids) ≡ chunks_left h (has_id_within (nodes_over h nodes) p)
       → ◌≡◌ {A = Held P} (record { dropped = dropped; added = added; metas = metas; chunks = chunks }) (without_node h nodes p)

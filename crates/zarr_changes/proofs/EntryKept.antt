@@ -15,7 +15,7 @@ use Rattle.zarr_tree.specs.Nodes.{same_numbers}
 use Rattle.zarr_path.specs.Indices.{index_cmp}
 use Rattle.manifest_file.specs.declared.manifest.Place.{Place}
 use Rattle.zarr_tree.specs.Touched.{IdsAscend, IndicesAscend}
-use Rattle.zarr_tree.specs.Held.{Entry, entry_in, indices_of, indices_in_order}
+use Rattle.zarr_tree.specs.Held.{HeldEntry, entry_in, indices_of, indices_in_order}
 use Rattle.zarr_changes.specs.Edits.{with_entry, without_entry, lists_key}
 use Rattle.zarr_changes.specs.Sets.{chunks_of, has_chunks}
 use Rattle.zarr_changes.specs.inside.Kept.{ChunkRows, array_rows, tagged, entry_rows}
@@ -33,7 +33,7 @@ Chunks = BTreeMap (List ℕ) (Option Place)
 abbrev pub Arrays : Type 0
 Arrays = List (Id8 × Chunks)
 
-abbrev pub all_of : Arrays → List (Entry Place)
+abbrev pub all_of : Arrays → List (HeldEntry Place)
 all_of es = entry_rows (array_rows es)
 
 -- ---- the rows of arrays
@@ -72,7 +72,7 @@ rows-filter test (e ∷ es) = by_test (test e.0) (rows-filter test es)
     by_test true h = ap (λ (x : Kept). (e.0, e.1.entries) ∷ x) h
     by_test false h = h
 
-pub left-entries : (test : Id8 → Bool) (es : Arrays) → all_of (filter (λ (e : Id8 × Chunks). test e.0) es) ≡ filter (λ (row : Entry Place). test row.0) (all_of es)
+pub left-entries : (test : Id8 → Bool) (es : Arrays) → all_of (filter (λ (e : Id8 × Chunks). test e.0) es) ≡ filter (λ (row : HeldEntry Place). test row.0) (all_of es)
 left-entries test es = ap entry_rows (rows-filter test es) ∙ entries-filter test (array_rows es)
 
 set_same : (test : Id8 → Bool) (es : Kept) (rows : ChunkRows) → lookup test es ≡ Some rows → set_value test es rows ≡ es
@@ -225,8 +225,8 @@ pub indices_none : (es : Arrays) (id : Id8) → IdsAscend (keys_of es) → looku
 indices_none es id h none = sym (in_order [] none_ascend) ∙ ap indices_in_order (ap keys_of (sym (rows_none es id h none)) ∙ sym (indices-rows (all_of es) id))
 
 -- ---- the chunks that have entries
-abbrev pub keys_in : List (Entry Place) → List (Id8 × List ℕ)
-keys_in rows = map (λ (row : Entry Place). (row.0, row.1)) rows
+abbrev pub keys_in : List (HeldEntry Place) → List (Id8 × List ℕ)
+keys_in rows = map (λ (row : HeldEntry Place). (row.0, row.1)) rows
 
 -- those of one more array
 pub keys_next : (before after : List (Id8 × List ℕ)) (id : Id8) (m : Chunks) (rest : Arrays) (all : List (Id8 × List ℕ)) → after ≡ before ++ map (λ (row : List ℕ × Option Place). (id, row.0)) m.entries
@@ -251,12 +251,12 @@ filter-filter {A} p q r same (x ∷ xs) = by_test (p x) refl (q x) (filter-filte
     by_test false e true h = ap (λ c. cond c (x ∷ filter p (filter q xs)) (filter p (filter q xs))) e ∙ h ∙ sym (ap (λ c. cond (c && true) (x ∷ filter r xs) (filter r xs)) e)
     by_test false e false h = h ∙ sym (ap (λ c. cond (c && false) (x ∷ filter r xs) (filter r xs)) e)
 
-none_out : (rows : List (Entry Place)) → filter (λ (row : Entry Place). not (lists_key [] row.0 row.1)) rows ≡ rows
+none_out : (rows : List (HeldEntry Place)) → filter (λ (row : HeldEntry Place). not (lists_key [] row.0 row.1)) rows ≡ rows
 none_out [] = refl
-none_out (row ∷ rows) = ap (λ (x : List (Entry Place)). row ∷ x) (none_out rows)
+none_out (row ∷ rows) = ap (λ (x : List (HeldEntry Place)). row ∷ x) (none_out rows)
 
-pub out_end : (left : List (Id8 × List ℕ)) (rows all : List (Entry Place)) → left ≡ [] → filter (λ (row : Entry Place). not (lists_key left row.0 row.1)) rows ≡ all → rows ≡ all
-out_end left rows all e h = sym (none_out rows) ∙ ap (λ (x : List (Id8 × List ℕ)). filter (λ (row : Entry Place). not (lists_key x row.0 row.1)) rows) (sym e) ∙ h
+pub out_end : (left : List (Id8 × List ℕ)) (rows all : List (HeldEntry Place)) → left ≡ [] → filter (λ (row : HeldEntry Place). not (lists_key left row.0 row.1)) rows ≡ all → rows ≡ all
+out_end left rows all e h = sym (none_out rows) ∙ ap (λ (x : List (Id8 × List ℕ)). filter (λ (row : HeldEntry Place). not (lists_key x row.0 row.1)) rows) (sym e) ∙ h
 
 either_not : (a b : Bool) → (not b && not a) ≡ not (a || b)
 either_not true true = refl
@@ -265,10 +265,10 @@ either_not false true = refl
 either_not false false = refl
 
 -- one chunk's is taken away before the others
-pub out_next : (id : Id8) (i : List ℕ) (left : List (Id8 × List ℕ)) (rows : List (Entry Place))
-    → filter (λ (row : Entry Place). not (lists_key left row.0 row.1)) (without_entry rows id i) ≡ filter (λ (row : Entry Place). not (lists_key ((id, i) ∷ left) row.0 row.1)) rows
+pub out_next : (id : Id8) (i : List ℕ) (left : List (Id8 × List ℕ)) (rows : List (HeldEntry Place))
+    → filter (λ (row : HeldEntry Place). not (lists_key left row.0 row.1)) (without_entry rows id i) ≡ filter (λ (row : HeldEntry Place). not (lists_key ((id, i) ∷ left) row.0 row.1)) rows
 out_next id i left rows =
-    filter-filter (λ (row : Entry Place). not (lists_key left row.0 row.1)) (λ (row : Entry Place). not (same_id8 row.0 id && same_numbers row.1 i)) (λ (row : Entry Place). not (lists_key ((id, i) ∷ left) row.0 row.1))
+    filter-filter (λ (row : HeldEntry Place). not (lists_key left row.0 row.1)) (λ (row : HeldEntry Place). not (same_id8 row.0 id && same_numbers row.1 i)) (λ (row : HeldEntry Place). not (lists_key ((id, i) ∷ left) row.0 row.1))
     (λ row. (λ t. not (lists_key left row.0 row.1) && not (same-turned row.0 id t && numbers-turned row.1 i t)) ∙ either_not (same_id8 id row.0 && same_numbers i row.1) (lists_key left row.0 row.1)) rows
 
 -- ---- what is left of a list
@@ -303,7 +303,7 @@ let_go test (e ∷ es) h = by_test (let_go test es) (test e.0) h
     by_test : (unwrap_or (lookup test es) [] ≡ [] → entry_rows (remove_entry test es) ≡ entry_rows es) → (b : Bool) → unwrap_or (cond b (Some e.1) (lookup test es)) [] ≡ []
         → entry_rows (cond b es (e ∷ remove_entry test es)) ≡ tagged e.0 e.1 ++ entry_rows es
     by_test rest true g = ap (λ (rows : ChunkRows). tagged e.0 rows ++ entry_rows es) (sym g)
-    by_test rest false g = ap (λ (x : List (Entry Place)). tagged e.0 e.1 ++ x) (rest g)
+    by_test rest false g = ap (λ (x : List (HeldEntry Place)). tagged e.0 e.1 ++ x) (rest g)
 
 no_rows : (rows : ChunkRows) → not (nat_eq (length rows) 0) ≡ false → rows ≡ []
 no_rows [] h = refl

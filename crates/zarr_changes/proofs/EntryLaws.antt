@@ -22,7 +22,7 @@ use Rattle.zarr_path.specs.Indices.{index_cmp}
 use Rattle.manifest_file.specs.declared.manifest.Place.{Place}
 use Rattle.zarr_tree.specs.Nodes.{same_numbers}
 use Rattle.zarr_tree.specs.Touched.{IdsAscend, IndicesAscend}
-use Rattle.zarr_tree.specs.Held.{Entry, entry_in, indices_of}
+use Rattle.zarr_tree.specs.Held.{HeldEntry, entry_in, indices_of}
 use Rattle.zarr_changes.specs.Edits.{entry_cmp, with_entry, without_entry}
 use Rattle.zarr_changes.specs.Sets.{chunks_of, has_chunks}
 use Rattle.zarr_changes.specs.inside.Kept.{ChunkRows, tagged, entry_rows}
@@ -143,13 +143,13 @@ row-removed rows i h = removed index_cmp index_total index_exact rows i h
 
 -- ---- of all arrays: an entry more
 module _ (id : Id8) (i : List ℕ) (entry : Option Place) where
-  abbrev it : Entry Place
+  abbrev it : HeldEntry Place
   it = (id, i, entry)
 
-  abbrev before : List (Entry Place) → List (Entry Place)
+  abbrev before : List (HeldEntry Place) → List (HeldEntry Place)
   before rows = filter (λ row. is_lt (entry_cmp row it)) rows
 
-  abbrev behind : List (Entry Place) → List (Entry Place)
+  abbrev behind : List (HeldEntry Place) → List (HeldEntry Place)
   behind rows = filter (λ row. is_lt (entry_cmp it row)) rows
 
   lower-before : (k : Id8) (rows : ChunkRows) → id8_cmp k id ≡ Less → before (tagged k rows) ≡ tagged k rows
@@ -185,9 +185,9 @@ module _ (id : Id8) (i : List ℕ) (entry : Option Place) where
   step_lower : (e : Id8 × ChunkRows) (es : Kept) → id8_cmp id e.0 ≡ Greater → tagged e.0 e.1 ++ with_entry (entry_rows es) id i entry ≡ with_entry (entry_rows (e ∷ es)) id i entry
   step_lower e es h =
       let low : before (entry_rows (e ∷ es)) ≡ tagged e.0 e.1 ++ before (entry_rows es) =
-      filter-append (λ row. is_lt (entry_cmp row it)) (tagged e.0 e.1) (entry_rows es) ∙ ap (λ (x : List (Entry Place)). x ++ before (entry_rows es)) (lower-before e.0 e.1 (turned_down id8_cmp id_total id e.0 h)) in
+      filter-append (λ row. is_lt (entry_cmp row it)) (tagged e.0 e.1) (entry_rows es) ∙ ap (λ (x : List (HeldEntry Place)). x ++ before (entry_rows es)) (lower-before e.0 e.1 (turned_down id8_cmp id_total id e.0 h)) in
       let high : behind (entry_rows (e ∷ es)) ≡ behind (entry_rows es) =
-      filter-append (λ row. is_lt (entry_cmp it row)) (tagged e.0 e.1) (entry_rows es) ∙ ap (λ (x : List (Entry Place)). x ++ behind (entry_rows es)) (lower-behind e.0 e.1 h) in
+      filter-append (λ row. is_lt (entry_cmp it row)) (tagged e.0 e.1) (entry_rows es) ∙ ap (λ (x : List (HeldEntry Place)). x ++ behind (entry_rows es)) (lower-behind e.0 e.1 h) in
       sym (append_assoc (tagged e.0 e.1) (before (entry_rows es)) (it ∷ behind (entry_rows es))) ∙ (λ t. sym low t ++ it ∷ sym high t)
 
   -- of an array that has none yet
@@ -204,7 +204,7 @@ module _ (id : Id8) (i : List ℕ) (entry : Option Place) where
           let bad : Some e.1 ≡ None = sym (ap (λ r. cond (is_eq r) (Some e.1) (lookup (is_at (id8_cmp id)) es)) g) ∙ none in cc
       by_order rest Greater g =
           let later : lookup (is_at (id8_cmp id)) es ≡ None = sym (ap (λ r. cond (is_eq r) (Some e.1) (lookup (is_at (id8_cmp id)) es)) g) ∙ none in
-          rw g (ap (λ (x : List (Entry Place)). tagged e.0 e.1 ++ x) (rest later) ∙ step_lower e es g)
+          rw g (ap (λ (x : List (HeldEntry Place)). tagged e.0 e.1 ++ x) (rest later) ∙ step_lower e es g)
 
   own_step : (rows : ChunkRows) (es : Kept) → AllByRecursion (λ y. id8_cmp id y ≡ Less) (keys_of es) → tagged id (with_row_at rows i entry) ++ entry_rows es ≡ with_entry (tagged id rows ++ entry_rows es) id i entry
   own_step rows es over =
@@ -214,7 +214,7 @@ module _ (id : Id8) (i : List ℕ) (entry : Option Place) where
       filter-append (λ row. is_lt (entry_cmp row it)) (tagged id rows) (entry_rows es) ∙ (λ t. own-before rows t ++ rest-before es over t) ∙ append-nil (tagged id low) in
       let second : behind (tagged id rows ++ entry_rows es) ≡ tagged id high ++ entry_rows es =
       filter-append (λ row. is_lt (entry_cmp it row)) (tagged id rows) (entry_rows es) ∙ (λ t. own-behind rows t ++ rest-behind es over t) in
-      ap (λ (x : List (Entry Place)). x ++ entry_rows es) (map-append (λ (row : List ℕ × Option Place). (id, row.0, row.1)) low ((i, entry) ∷ high))
+      ap (λ (x : List (HeldEntry Place)). x ++ entry_rows es) (map-append (λ (row : List ℕ × Option Place). (id, row.0, row.1)) low ((i, entry) ∷ high))
       ∙ append_assoc (tagged id low) (it ∷ tagged id high) (entry_rows es)
       ∙ (λ t. sym first t ++ it ∷ sym second t)
 
@@ -234,7 +234,7 @@ module _ (id : Id8) (i : List ℕ) (entry : Option Place) where
           let over : AllByRecursion (λ y. id8_cmp id y ≡ Less) (keys_of es) = subst (λ (x : Id8). AllByRecursion (λ y. id8_cmp x y ≡ Less) (keys_of es)) (sym same) (sorted_head id8_cmp e.0 (keys_of es) h) in
           rw g
           ((λ t. tagged (sym same t) (row-inserted rows i entry sorted t) ++ entry_rows es) ∙ own_step rows es over ∙ (λ t. with_entry (tagged (same t) rows ++ entry_rows es) id i entry))
-      by_order rest Greater g = rw g (ap (λ (x : List (Entry Place)). tagged e.0 e.1 ++ x) rest ∙ step_lower e (insert_entry id8_cmp es id rows) g)
+      by_order rest Greater g = rw g (ap (λ (x : List (HeldEntry Place)). tagged e.0 e.1 ++ x) rest ∙ step_lower e (insert_entry id8_cmp es id rows) g)
 
   -- of an array that has some
   pub set_old : (es : Kept) (rows after : ChunkRows) → IdsAscend (keys_of es) → lookup (is_at (id8_cmp id)) es ≡ Some rows → after ≡ with_row_at rows i entry
@@ -257,7 +257,7 @@ module _ (id : Id8) (i : List ℕ) (entry : Option Place) where
       by_order rest Greater g =
           let later : lookup (is_at (id8_cmp id)) es ≡ Some rows = sym (ap (λ r. cond (is_eq r) (Some e.1) (lookup (is_at (id8_cmp id)) es)) g) ∙ found in
           ap (λ r. entry_rows (cond (is_eq r) ((e.0, after) ∷ es) (e ∷ set_value (is_at (id8_cmp id)) es after))) g
-          ∙ ap (λ (x : List (Entry Place)). tagged e.0 e.1 ++ x) (rest later) ∙ step_lower e es g
+          ∙ ap (λ (x : List (HeldEntry Place)). tagged e.0 e.1 ++ x) (rest later) ∙ step_lower e es g
 
 -- ---- what is said of one array
 is_itself : (id : Id8) → same_id8 id id ≡ true
@@ -279,7 +279,7 @@ module _ (id : Id8) where
 
   -- the entries without that of a chunk
   module _ (i : List ℕ) where
-    abbrev other : Entry Place → Bool
+    abbrev other : HeldEntry Place → Bool
     other row = not (same_id8 row.0 id && same_numbers row.1 i)
 
     others-stay : (k : Id8) (rows : ChunkRows) → same_id8 k id ≡ false → filter other (tagged k rows) ≡ tagged k rows
@@ -325,13 +325,13 @@ module _ (id : Id8) where
             ∙ sym (filter-append other (tagged e.0 e.1) (entry_rows es))
 
     -- the entry of a chunk
-    abbrev its_chunk : Entry Place → Bool
+    abbrev its_chunk : HeldEntry Place → Bool
     its_chunk row = same_id8 row.0 id && same_numbers row.1 i
 
-    not_among : (k : Id8) (rows : ChunkRows) (rest : List (Entry Place)) → same_id8 k id ≡ false → entry_in (tagged k rows ++ rest) id i ≡ entry_in rest id i
+    not_among : (k : Id8) (rows : ChunkRows) (rest : List (HeldEntry Place)) → same_id8 k id ≡ false → entry_in (tagged k rows ++ rest) id i ≡ entry_in rest id i
     not_among k [] rest h = refl
     not_among k (row ∷ rows) rest h =
-        ap (λ b. option_map (λ (r : Entry Place). r.2) (cond (b && same_numbers row.0 i) (Some (k, row.0, row.1)) (find its_chunk (tagged k rows ++ rest)))) h ∙ not_among k rows rest h
+        ap (λ b. option_map (λ (r : HeldEntry Place). r.2) (cond (b && same_numbers row.0 i) (Some (k, row.0, row.1)) (find its_chunk (tagged k rows ++ rest)))) h ∙ not_among k rows rest h
 
     none_over : (es : Kept) → Over es → entry_in (entry_rows es) id i ≡ None
     none_over [] h = refl
@@ -345,14 +345,14 @@ module _ (id : Id8) where
         back Equal = refl
         back Greater = refl
 
-    among_own : (rows : ChunkRows) (rest : List (Entry Place)) → entry_in rest id i ≡ None → entry_in (tagged id rows ++ rest) id i ≡ lookup (is_at (index_cmp i)) rows
+    among_own : (rows : ChunkRows) (rest : List (HeldEntry Place)) → entry_in rest id i ≡ None → entry_in (tagged id rows ++ rest) id i ≡ lookup (is_at (index_cmp i)) rows
     among_own [] rest none = none
     among_own (row ∷ rows) rest none =
-        (λ t. option_map (λ (r : Entry Place). r.2) (cond (is_itself id t && turned_test row.0 t) (Some (id, row.0, row.1)) (find its_chunk (tagged id rows ++ rest))))
+        (λ t. option_map (λ (r : HeldEntry Place). r.2) (cond (is_itself id t && turned_test row.0 t) (Some (id, row.0, row.1)) (find its_chunk (tagged id rows ++ rest))))
         ∙ by_test (is_eq (index_cmp i row.0)) (among_own rows rest none)
       where
         by_test : (b : Bool) → entry_in (tagged id rows ++ rest) id i ≡ lookup (is_at (index_cmp i)) rows
-            → option_map (λ (r : Entry Place). r.2) (cond b (Some (id, row.0, row.1)) (find its_chunk (tagged id rows ++ rest))) ≡ cond b (Some row.1) (lookup (is_at (index_cmp i)) rows)
+            → option_map (λ (r : HeldEntry Place). r.2) (cond b (Some (id, row.0, row.1)) (find its_chunk (tagged id rows ++ rest))) ≡ cond b (Some row.1) (lookup (is_at (index_cmp i)) rows)
         by_test true e = refl
         by_test false e = e
 
@@ -372,10 +372,10 @@ module _ (id : Id8) where
             ∙ sym (ap (λ b. option_and_then (lookup (is_at (index_cmp i))) (cond b (Some e.1) (lookup (is_at (id8_cmp id)) es))) g)
 
   -- the entries of an array
-  abbrev its : Entry Place → Bool
+  abbrev its : HeldEntry Place → Bool
   its row = same_id8 row.0 id
 
-  abbrev bare : Entry Place → List ℕ × Option Place
+  abbrev bare : HeldEntry Place → List ℕ × Option Place
   bare row = (row.1, row.2)
 
   untagged : (rows : ChunkRows) → map bare (tagged id rows) ≡ rows
@@ -404,42 +404,42 @@ module _ (id : Id8) where
           ∙ untagged e.1
           ∙ sym (ap (λ b. unwrap_or (cond b (Some e.1) (lookup (is_at (id8_cmp id)) es)) []) g)
       by_case rest false g =
-          ap (map bare) (filter-append its (tagged e.0 e.1) (entry_rows es) ∙ ap (λ (x : List (Entry Place)). x ++ filter its (entry_rows es)) (no_others e.0 e.1 (same_ids e.0 id ∙ g)))
+          ap (map bare) (filter-append its (tagged e.0 e.1) (entry_rows es) ∙ ap (λ (x : List (HeldEntry Place)). x ++ filter its (entry_rows es)) (no_others e.0 e.1 (same_ids e.0 id ∙ g)))
           ∙ rest
           ∙ sym (ap (λ b. unwrap_or (cond b (Some e.1) (lookup (is_at (id8_cmp id)) es)) []) g)
 
 -- ---- whether an array has entries, and their indices
-abbrev bared : {P : Type 0} → Entry P → List ℕ × Option P
+abbrev bared : {P : Type 0} → HeldEntry P → List ℕ × Option P
 bared r = (r.1, r.2)
 
-pub has-rows : {P : Type 0} (rows : List (Entry P)) (id : Id8) → has_chunks rows id ≡ not (nat_eq (length (chunks_of rows id)) 0)
+pub has-rows : {P : Type 0} (rows : List (HeldEntry P)) (id : Id8) → has_chunks rows id ≡ not (nat_eq (length (chunks_of rows id)) 0)
 has-rows [] id = refl
 has-rows {P} (row ∷ rows) id = by_test (same_id8 row.0 id) (has-rows rows id)
   where
     by_test : (b : Bool) → has_chunks rows id ≡ not (nat_eq (length (chunks_of rows id)) 0)
-        → (b || has_chunks rows id) ≡ not (nat_eq (length (map bared (cond b (row ∷ filter (λ (r : Entry P). same_id8 r.0 id) rows) (filter (λ (r : Entry P). same_id8 r.0 id) rows)))) 0)
-    by_test true e = ap not (sym (not_zero (length (map bared (filter (λ (r : Entry P). same_id8 r.0 id) rows)))))
+        → (b || has_chunks rows id) ≡ not (nat_eq (length (map bared (cond b (row ∷ filter (λ (r : HeldEntry P). same_id8 r.0 id) rows) (filter (λ (r : HeldEntry P). same_id8 r.0 id) rows)))) 0)
+    by_test true e = ap not (sym (not_zero (length (map bared (filter (λ (r : HeldEntry P). same_id8 r.0 id) rows)))))
     by_test false e = e
 
-pub indices-rows : {P : Type 0} (rows : List (Entry P)) (id : Id8) → indices_of rows id ≡ keys_of (chunks_of rows id)
-indices-rows {P} rows id = fused (filter (λ (r : Entry P). same_id8 r.0 id) rows)
+pub indices-rows : {P : Type 0} (rows : List (HeldEntry P)) (id : Id8) → indices_of rows id ≡ keys_of (chunks_of rows id)
+indices-rows {P} rows id = fused (filter (λ (r : HeldEntry P). same_id8 r.0 id) rows)
   where
-    fused : (rows : List (Entry P)) → map (λ (r : Entry P). r.1) rows ≡ keys_of (map (λ (r : Entry P). (r.1, r.2)) rows)
+    fused : (rows : List (HeldEntry P)) → map (λ (r : HeldEntry P). r.1) rows ≡ keys_of (map (λ (r : HeldEntry P). (r.1, r.2)) rows)
     fused [] = refl
     fused (row ∷ rows) = ap (λ (x : List (List ℕ)). row.1 ∷ x) (fused rows)
 
 -- ---- those of the arrays that pass a test
-pub entries-filter : (test : Id8 → Bool) (es : Kept) → entry_rows (filter (λ (e : Id8 × ChunkRows). test e.0) es) ≡ filter (λ (row : Entry Place). test row.0) (entry_rows es)
+pub entries-filter : (test : Id8 → Bool) (es : Kept) → entry_rows (filter (λ (e : Id8 × ChunkRows). test e.0) es) ≡ filter (λ (row : HeldEntry Place). test row.0) (entry_rows es)
 entries-filter test [] = refl
 entries-filter test (e ∷ es) = by_case (test e.0) refl (entries-filter test es)
   where
-    by_case : (b : Bool) → test e.0 ≡ b → entry_rows (filter (λ (x : Id8 × ChunkRows). test x.0) es) ≡ filter (λ (row : Entry Place). test row.0) (entry_rows es)
-        → entry_rows (cond (test e.0) (e ∷ filter (λ (x : Id8 × ChunkRows). test x.0) es) (filter (λ (x : Id8 × ChunkRows). test x.0) es)) ≡ filter (λ (row : Entry Place). test row.0) (entry_rows (e ∷ es))
+    by_case : (b : Bool) → test e.0 ≡ b → entry_rows (filter (λ (x : Id8 × ChunkRows). test x.0) es) ≡ filter (λ (row : HeldEntry Place). test row.0) (entry_rows es)
+        → entry_rows (cond (test e.0) (e ∷ filter (λ (x : Id8 × ChunkRows). test x.0) es) (filter (λ (x : Id8 × ChunkRows). test x.0) es)) ≡ filter (λ (row : HeldEntry Place). test row.0) (entry_rows (e ∷ es))
     by_case true g rest =
         ap (λ b. entry_rows (cond b (e ∷ filter (λ (x : Id8 × ChunkRows). test x.0) es) (filter (λ (x : Id8 × ChunkRows). test x.0) es))) g
-        ∙ (λ t. sym (filter-all (λ (row : List ℕ × Option Place). (e.0, row.0, row.1)) (λ (row : Entry Place). test row.0) (λ row. g) e.1) t ++ rest t)
-        ∙ sym (filter-append (λ (row : Entry Place). test row.0) (tagged e.0 e.1) (entry_rows es))
+        ∙ (λ t. sym (filter-all (λ (row : List ℕ × Option Place). (e.0, row.0, row.1)) (λ (row : HeldEntry Place). test row.0) (λ row. g) e.1) t ++ rest t)
+        ∙ sym (filter-append (λ (row : HeldEntry Place). test row.0) (tagged e.0 e.1) (entry_rows es))
     by_case false g rest =
         ap (λ b. entry_rows (cond b (e ∷ filter (λ (x : Id8 × ChunkRows). test x.0) es) (filter (λ (x : Id8 × ChunkRows). test x.0) es))) g
-        ∙ (λ t. sym (filter-none (λ (row : List ℕ × Option Place). (e.0, row.0, row.1)) (λ (row : Entry Place). test row.0) (λ row. g) e.1) t ++ rest t)
-        ∙ sym (filter-append (λ (row : Entry Place). test row.0) (tagged e.0 e.1) (entry_rows es))
+        ∙ (λ t. sym (filter-none (λ (row : List ℕ × Option Place). (e.0, row.0, row.1)) (λ (row : HeldEntry Place). test row.0) (λ row. g) e.1) t ++ rest t)
+        ∙ sym (filter-append (λ (row : HeldEntry Place). test row.0) (tagged e.0 e.1) (entry_rows es))

@@ -17,7 +17,7 @@ use Rattle.ice_ids.specs.Text.{id8_cmp}
 use Rattle.zarr_path.specs.Indices.{index_cmp}
 use Rattle.manifest_file.specs.declared.manifest.Place.{Place}
 use Rattle.zarr_tree.specs.Touched.{IdsAscend, IndicesAscend}
-use Rattle.zarr_tree.specs.Held.{Entry}
+use Rattle.zarr_tree.specs.Held.{HeldEntry}
 use Rattle.zarr_changes.specs.declared.placing.Placed.{Placed}
 use Rattle.zarr_changes.specs.declared.placing.Before.{Before}
 use Rattle.zarr_changes.specs.Placing.{with_placed}
@@ -144,14 +144,14 @@ module _ (id : Id8) where
       by_order rest Less g = rw g refl
       by_order rest Equal g =
           let bad : Some e.1 ≡ None = sym (ap (λ r. cond (is_eq r) (Some e.1) (lookup the es)) g) ∙ none in cc
-      by_order rest Greater g = rw g (ap (λ (x : List (Entry Place)). tagged e.0 e.1 ++ x) (rest (sym (ap (λ r. cond (is_eq r) (Some e.1) (lookup the es)) g) ∙ none)))
+      by_order rest Greater g = rw g (ap (λ (x : List (HeldEntry Place)). tagged e.0 e.1 ++ x) (rest (sym (ap (λ r. cond (is_eq r) (Some e.1) (lookup the es)) g) ∙ none)))
 
   placed_in : (placed : List Placed) (es : Kept) (rows : ChunkRows) → IdsAscend (keys_of es) → IndicesAscend (keys_of rows)
       → entry_rows (insert_entry id8_cmp es id (rows_placed rows placed)) ≡ with_placed (entry_rows (insert_entry id8_cmp es id rows)) id placed
   placed_in [] es rows h sorted = refl
   placed_in (p ∷ placed) es rows h sorted =
       placed_in placed es (insert_entry index_cmp rows p.index (Some p.place)) h (insert_sorted index_cmp index_total rows p.index (Some p.place) sorted)
-      ∙ ap (λ (x : List (Entry Place)). with_placed x id placed) (insert_more id p.index (Some p.place) es rows h sorted)
+      ∙ ap (λ (x : List (HeldEntry Place)). with_placed x id placed) (insert_more id p.index (Some p.place) es rows h sorted)
 
   module _ (es : Arrays) (h : IdsAscend (keys_of es)) where
     ascend : IdsAscend (keys_of (array_rows es))
@@ -172,8 +172,8 @@ module _ (id : Id8) where
     all_entered_new placed new none is =
         ap entry_rows (rows-insert es id new ∙ ap (λ (rows : ChunkRows). insert_entry id8_cmp (array_rows es) id rows) is)
         ∙ placed_in placed (array_rows es) [] ascend none_ascend
-        ∙ ap (λ (x : List (Entry Place)). with_placed x id placed) (none_put (array_rows es) (none_there es id h none))
+        ∙ ap (λ (x : List (HeldEntry Place)). with_placed x id placed) (none_put (array_rows es) (none_there es id h none))
 
-pub none_placed : (rows : List (Entry Place)) (id : Id8) (placed : List Placed) → length placed ≡ 0 → with_placed rows id placed ≡ rows
+pub none_placed : (rows : List (HeldEntry Place)) (id : Id8) (placed : List Placed) → length placed ≡ 0 → with_placed rows id placed ≡ rows
 none_placed rows id [] e = refl
 none_placed rows id (p ∷ placed) e = absurd (omega (arith, e))

@@ -12,14 +12,14 @@ use Rattle.ice_ids.specs.Text.{same_id8, id8_cmp}
 use Rattle.std.proofs.lemmas.Bool.{false_from_ne_true}
 use Rattle.zarr_path.specs.Paths.{path_cmp}
 use Rattle.zarr_path.proofs.PathLaws.{by_numbers}
-use Rattle.zarr_meta.specs.declared.views.View.{View}
-use Rattle.zarr_meta.specs.declared.views.View.TheVariants as view
+use Rattle.zarr_meta.specs.declared.views.MetaView.{MetaView}
+use Rattle.zarr_meta.specs.declared.views.MetaView.TheVariants as view
 use Rattle.zarr_meta.specs.Meta.{view_in}
 use Rattle.zarr_tree.specs.declared.nodes.Found.{Found}
 use Rattle.zarr_tree.specs.Nodes.{Node, is_metadata, is_group, is_array, is_group_view, array_of_view}
 use Rattle.zarr_tree.specs.Changes.{is_gone}
 use Rattle.zarr_tree.specs.Touched.{lists, is_untouched}
-use Rattle.zarr_tree.specs.Held.{Held, Rows, meta_in, nodes_over, ids_in_order, ids_of, Entry, gone_rows, updated_rows, written_rows, touched}
+use Rattle.zarr_tree.specs.Held.{Held, Rows, meta_in, nodes_over, ids_in_order, ids_of, HeldEntry, gone_rows, updated_rows, written_rows, touched}
 use Rattle.zarr_changes.specs.declared.net.Kinds.{Kinds}
 use Rattle.zarr_changes.specs.Edits.{with_id}
 use Rattle.zarr_changes.specs.inside.Touching.{no_kinds, with_kind, with_kinds, IsOf, has_metadata, is_updated, touches_own, chunk_lists}
@@ -239,7 +239,7 @@ empty-kind kind rows = no_length (of_kind kind rows) ∙ no_kind kind rows
 either_kind : (text : List ℕ) → is_metadata text ≡ (is_group text || is_array text)
 either_kind text = by_view (view_in text)
   where
-    by_view : (v : Option View) → is_some v ≡ (is_group_view v || is_some (array_of_view v))
+    by_view : (v : Option MetaView) → is_some v ≡ (is_group_view v || is_some (array_of_view v))
     by_view None = refl
     by_view (Some view.Group) = refl
     by_view (Some (view.Array array)) = refl
@@ -345,5 +345,5 @@ module _ {P : Type 0} (h : Held P) (nodes : FinMap path_cmp Node) where
 
   pub nothing_written : h.chunks ≡ [] → written_rows h nodes ≡ []
   nothing_written e =
-      ap (λ (chunks : List (Entry P)). filter (λ (row : List ℕ × Node). list_any (λ (entry : Entry P). same_id8 entry.0 row.1.id) chunks) (entries (nodes_over h nodes))) e
-      ∙ none_pass (λ row. list_any (λ (entry : Entry P). same_id8 entry.0 row.1.id) []) (λ row. refl) (entries (nodes_over h nodes))
+      ap (λ (chunks : List (HeldEntry P)). filter (λ (row : List ℕ × Node). list_any (λ (entry : HeldEntry P). same_id8 entry.0 row.1.id) chunks) (entries (nodes_over h nodes))) e
+      ∙ none_pass (λ row. list_any (λ (entry : HeldEntry P). same_id8 entry.0 row.1.id) []) (λ row. refl) (entries (nodes_over h nodes))

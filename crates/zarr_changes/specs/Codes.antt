@@ -9,7 +9,7 @@ use Rattle.manifest_file.specs.declared.manifest.Place.{Place}
 use Rattle.manifest_file.specs.declared.manifest.Place.TheVariants.{Inline, Object}
 use Rattle.zarr_tree.specs.Codes.{coded_path, coded_node}
 use Rattle.zarr_tree.specs.Nodes.{Node}
-use Rattle.zarr_tree.specs.Held.{Held, Entry}
+use Rattle.zarr_tree.specs.Held.{Held, HeldEntry}
 
 abbrev pub coded_id : Coded Id8
 coded_id = code_by (List ℕ) coded_path (λ id. id.0) (λ bytes. record { 0 = bytes }) (λ _. refl)
@@ -33,21 +33,27 @@ abbrev pub coded_number_pair : Coded (ℕ × ℕ)
 coded_number_pair = coded× coded_ℕ coded_ℕ
 
 abbrev pub coded_triple : Coded (List ℕ × ℕ × ℕ)
-coded_triple = code_by (List ℕ × (ℕ × ℕ)) (coded× coded_path coded_number_pair) (λ t. (t.0, (t.1, t.2))) (λ p. (p.0, p.1.0, p.1.1)) (λ _. refl)
+coded_triple =
+    code_by (List ℕ × (ℕ × ℕ)) (coded× coded_path coded_number_pair) (λ t. (t.0, (t.1, t.2)))
+    (λ p. (p.0, p.1.0, p.1.1)) (λ _. refl)
 
 abbrev pub coded_place : Coded Place
 coded_place = code_by Parts (coded⊎ coded_path coded_triple) parts_of place_of place-parts
 
 module _ {P : Type 0} (coded_p : Coded P) where
-  abbrev pub coded_entry : Coded (Entry P)
-  coded_entry = code_by (Id8 × (List ℕ × Option P)) (coded× coded_id (coded× coded_path (coded_option coded_p))) (λ e. (e.0, (e.1, e.2))) (λ p. (p.0, p.1.0, p.1.1)) (λ _. refl)
+  abbrev pub coded_entry : Coded (HeldEntry P)
+  coded_entry =
+      code_by (Id8 × (List ℕ × Option P))
+      (coded× coded_id (coded× coded_path (coded_option coded_p))) (λ e. (e.0, (e.1, e.2)))
+      (λ p. (p.0, p.1.0, p.1.1)) (λ _. refl)
 
   abbrev pub HeldParts : Type 0
-  HeldParts = (List Id8 × FinMap path_cmp Node) × (List (Id8 × List ℕ) × List (Entry P))
+  HeldParts = (List Id8 × FinMap path_cmp Node) × (List (Id8 × List ℕ) × List (HeldEntry P))
 
   abbrev pub coded_held : Coded (Held P)
   coded_held = code_by HeldParts
-      (coded× (coded× (coded_list coded_id) (code coded_path coded_node)) (coded× (coded_list (coded× coded_id coded_path)) (coded_list coded_entry)))
+      (coded× (coded× (coded_list coded_id) (code coded_path coded_node))
+      (coded× (coded_list (coded× coded_id coded_path)) (coded_list coded_entry)))
       (λ h. ((h.dropped, h.added), (h.metas, h.chunks)))
       (λ p. record { dropped = p.0.0; added = p.0.1; metas = p.1.0; chunks = p.1.1 })
       (λ _. refl)

@@ -1,5 +1,6 @@
 -- Rows of paths and nodes, in the order of the paths. (Own.)
-use Rattle.std.specs.Prelude.{ℕ, Bool, true, List, [], ◌∷◌, ◌++◌, map, drop, not, Option, Some, None}
+use Rattle.std.specs.Prelude.{ℕ, Bool, true, List, [], ◌∷◌, ◌++◌}
+use Rattle.std.specs.Prelude.{map, drop, not, Option, Some, None}
 use Rattle.std.specs.Borrow.{Bor}
 use Rattle.std.specs.List.{filter}
 use Rattle.std.specs.FinMap.{FinMap, entries, from_entries}
@@ -18,7 +19,8 @@ overlay first second = from_entries (first ++ second)
 -- the rows of a tree that stay, from row number `at` on, with their other texts
 abbrev pub own_rows : {P : Type 0} → Held P → FinMap path_cmp Node → (at : ℕ) → Rows
 own_rows h nodes at =
-    map (λ row. (row.0, patched (meta_in h.metas) row.1)) (filter (λ row. not (is_gone (lists h.dropped) nodes row.0)) (drop at (entries nodes)))
+    map (λ row. (row.0, patched (meta_in h.metas) row.1))
+    (filter (λ row. not (is_gone (lists h.dropped) nodes row.0)) (drop at (entries nodes)))
 
 -- a row, if there is one, and the others
 abbrev pub rows_from : Option (Bor (List ℕ) × Found) → Rows → Rows

@@ -19,7 +19,7 @@ use crate::set::ChangeSet;
 use ice_ids::Id8;
 use ice_items::Items;
 use std::alloc::{AllocError, Global};
-use zarr_meta::View;
+use zarr_meta::MetaView;
 use zarr_tree::{ArrayChunks, Found, TreeLike};
 
 /// The ids of an overlay's nodes that have entries.
@@ -64,7 +64,7 @@ fn push_array(
         (arrays.new ≡ arrays.old ++ option_to_list
         (array_of_row (text.now, node_found found.entry))) }
 {
-    if let View::Array(array) = &found.meta.view {
+    if let MetaView::Array(array) = &found.meta.view {
         arrays.push(ChangedArray {
             path: path_of(alloc, text)?,
             node: found.id,

@@ -1,14 +1,14 @@
 //! Chunks in the changes.
 
-ghost use Rattle.std.specs.Prelude.{◌≡◌, IfOk, OnOk, OnErr, option_map};
+ghost use Rattle.std.specs.Prelude.{◌≡◌, Some, IfOk, OnOk, OnErr, option_map};
 ghost use Rattle.std.specs.Option.{option_copied};
 ghost use Rattle.zarr_tree.specs.Nodes.{array_in};
 ghost use Rattle.zarr_tree.specs.Rows.{node_found};
 ghost use Rattle.zarr_tree.specs.Edits.{unless};
 ghost use Rattle.zarr_tree.specs.Held.{entry_in, nodes_over};
-ghost use Rattle.zarr_changes.specs.Edits.{with_chunk_at, without_chunk_at};
+ghost use Rattle.zarr_changes.specs.Edits.{with_chunk_at, with_entry, without_chunk_at};
 ghost use Rattle.zarr_changes.specs.Placing.{with_placed};
-ghost use Rattle.zarr_changes.specs.Sets.{length_of, chunk_in, chunk_found, set_refusal, unset_refusal, chunks_of, Enters};
+ghost use Rattle.zarr_changes.specs.Sets.{length_of, chunk_in, chunk_found, set_refusal, unset_refusal, chunks_of, Enters, FindsArray};
 
 use crate::places::length_of;
 use crate::placing::Placed;
@@ -17,7 +17,7 @@ use ice_ids::Id8;
 use manifest_file::Place;
 use std::alloc::{AllocError, Global};
 use zarr_grid::{chunk_bytes, in_grid};
-use zarr_meta::View;
+use zarr_meta::MetaView;
 use zarr_path::{Index, Path};
 use zarr_tree::{EditFault, Found, TreeLike, grid_law};
 
@@ -46,7 +46,7 @@ fn chunk_in(found: Found<'_>, index: &Index) -> Result<ChunkAt, EditFault>
     ensures { result ≡ chunk_in found.entry.id index.now (array_in (node_found found.entry).text) }
 {
     grid_law();
-    let View::Array(array) = &found.meta.view else {
+    let MetaView::Array(array) = &found.meta.view else {
         return Err(EditFault::NotArray);
     };
     if !in_grid(array.shape.as_slice(), array.chunks.as_slice(), index) {
@@ -75,6 +75,28 @@ impl ChangeSet {
         }
     }
 
+    /// The id of the overlay's array at a path, which takes so many bytes as its chunk of this index; or it refuses exactly
+    /// as setting that chunk would. It takes no memory.
+    pub fn array_to_set<B: TreeLike>(
+        &self,
+        base: &B,
+        path: &Path,
+        index: &Index,
+        len: u64,
+    ) -> Result<Id8, EditFault>
+        ensures { FindsArray (nodes_over self.now (B.nodes base.now)) path.now index.now len
+            result }
+    {
+        let chunk = self.find_chunk(base, path, index)?;
+        if len != chunk.bytes {
+            return Err(EditFault::ChunkLength {
+                want: chunk.bytes,
+                got: len,
+            });
+        }
+        Ok(chunk.node)
+    }
+
     /// Refuses exactly as setting a chunk of so many bytes would. It takes no memory.
     pub fn may_set<B: TreeLike>(
         &self,
@@ -86,13 +108,7 @@ impl ChangeSet {
         ensures { result ≡ unless (set_refusal (nodes_over self.now (B.nodes base.now)) path.now
             index.now len) tt }
     {
-        let chunk = self.find_chunk(base, path, index)?;
-        if len != chunk.bytes {
-            return Err(EditFault::ChunkLength {
-                want: chunk.bytes,
-                got: len,
-            });
-        }
+        self.array_to_set(base, path, index, len)?;
         Ok(())
     }
 
@@ -110,17 +126,28 @@ impl ChangeSet {
             (length_of place)) (with_chunk_at self.old (B.nodes base.now) path.now index.now place)
             self.old result self.new }
     {
-        let chunk = self.find_chunk(base, path, index)?;
-        let got = length_of(&place);
-        if got != chunk.bytes {
-            return Err(EditFault::ChunkLength {
-                want: chunk.bytes,
-                got,
-            });
-        }
+        let node = self.array_to_set(base, path, index, length_of(&place))?;
         let index = index.copy(alloc)?;
-        self.entries.insert(alloc, chunk.node, index, Some(place))?;
+        self.enter_chunk(alloc, node, index, place)?;
         Ok(())
+    }
+
+    /// The chunk of this index of an array has its bytes at this place from now on, or memory runs out and the set is as before.
+    /// Whether the overlay has such an array isn't asked.
+    pub fn enter_chunk(
+        &mut self,
+        alloc: Global,
+        node: Id8,
+        index: Index,
+        place: Place,
+    ) -> Result<(), AllocError>
+        ensures ok { OnOk result
+            (self.new ≡ record self.old {
+              chunks = with_entry self.old.chunks node index (Some place);
+            }) }
+        ensures err { OnErr result (self.new ≡ self.old) }
+    {
+        self.entries.insert(alloc, node, index, Some(place))
     }
 
     /// The chunks of an array have their bytes at these places from now on: all of them, or none where memory runs out. Whether

@@ -87,7 +87,7 @@ fn copy_chunks(alloc: Global, chunks: &Chunks) -> Result<Chunks, AllocError>
 fn rows_of(alloc: Global, chunks: &Chunks) -> Result<Vec<ChunkRow>, AllocError>
     ensures { IfOk result (λ rows. rows.items ≡ chunks.now.entries) }
 {
-    let mut rows = Vec::new(alloc);
+    let mut rows = Vec::with_capacity(alloc, chunks.len())?;
     for (index, entry) in chunks.iter() {
         rows.push((index.copy(alloc)?, copy_entry(alloc, entry)?))?;
     }
@@ -99,7 +99,7 @@ fn indices_in(alloc: Global, chunks: &Chunks) -> Result<Items<Index>, AllocError
     ensures value { IfOk result (λ indices. indices ≡ keys_of chunks.now.entries) }
     ensures order { IndicesAscend (keys_of chunks.now.entries) }
 {
-    let mut indices = Items::new(alloc);
+    let mut indices = Items::from_vec(Vec::with_capacity(alloc, chunks.len())?);
     for (index, _) in chunks.iter() {
         indices.push(index.copy(alloc)?)?;
     }
@@ -132,10 +132,10 @@ impl Model for Entries {
     ghost use Rattle.std.specs.Map.{keys_of};
     ghost use Rattle.manifest_file.specs.declared.manifest.Place.{Place as ThePlace};
     ghost use Rattle.zarr_tree.specs.Touched.{IdsAscend};
-    ghost use Rattle.zarr_tree.specs.Held.{Entry};
+    ghost use Rattle.zarr_tree.specs.Held.{HeldEntry};
     ghost use Rattle.zarr_changes.specs.inside.Kept.{array_rows, entry_rows};
 
-    ghost Value = { List (Entry ThePlace) };
+    ghost Value = { List (HeldEntry ThePlace) };
 
     ghost view = { λ e. entry_rows (array_rows e.arrays.entries) };
 

@@ -10,7 +10,8 @@ chunk_of chunks cell = map (λ p. p.0 / p.1) (zip cell chunks)
 abbrev pub offsets_of : List ℕ → List ℕ → List ℕ
 offsets_of chunks cell = map (λ p. p.0 % p.1) (zip cell chunks)
 
--- C order: how many elements stand before the one at these offsets, where those of the last dimension stand side by side
+-- C order: how many elements stand before the one at these offsets, where those of the
+-- last dimension stand side by side
 abbrev pub c_order : List ℕ → List ℕ → ℕ
 c_order [] offsets = 0
 c_order (n ∷ chunks) [] = 0

@@ -9,7 +9,7 @@ use Rattle.store_api.specs.Running.{Program}
 use Rattle.session.specs.declared.setting.Setting.{Setting}
 use Rattle.session.specs.Sessions.{SessionState}
 use Rattle.session.specs.Editing.{Leaves}
-use Rattle.session.specs.Setting.{Sets, SetRefused}
+use Rattle.session.specs.Setting.{SetBegun, SetRefused}
 use Rattle.zarr_keys.specs.declared.values.KeyValue.{KeyValue}
 use Rattle.zarr_keys.specs.declared.getting.KeyGetting.{KeyGetting}
 use Rattle.zarr_keys.specs.Keys.{get_at, key_get_program, set_at, key_set_program, erased_at, key_erased}
@@ -33,8 +33,8 @@ module _ (s : SessionState) (key : List ℕ) where
   unfolding key_set_program
   set_named bytes o e = ap (set_at s bytes) e
 
-  pub sets_at : (bytes : List ℕ) (found : ZarrKey) (result : Result Setting (SessionState × Refusal)) → key_of key ≡ Some found → Sets (set_at s bytes (Some found)) s result → Sets (key_set_program s key bytes) s result
-  sets_at bytes found result e g = subst (λ (p : Program SessionState). Sets p s result) (sym (set_named bytes (Some found) e)) g
+  pub sets_at : (bytes : List ℕ) (found : ZarrKey) (result : Result Setting (SessionState × Refusal)) → key_of key ≡ Some found → SetBegun (set_at s bytes (Some found)) s result → SetBegun (key_set_program s key bytes) s result
+  sets_at bytes found result e g = subst (λ (p : Program SessionState). SetBegun p s result) (sym (set_named bytes (Some found) e)) g
 
   pub set_refused : (bytes : List ℕ) (why : Refusal) → Names (key_of key) (Err why) → SetRefused (key_set_program s key bytes) s s why
   set_refused bytes R.BadKey e = (set_named bytes None e, refl)

@@ -26,7 +26,7 @@ use Rattle.zarr_tree.specs.Held.{changes_of, entry_in}
 use Rattle.zarr_tree.proofs.Maps.{get-put}
 use Rattle.zarr_tree.proofs.Extend.{put_added, own-id, passed, some_node, some_array, not_not}
 use Rattle.zarr_tree.proofs.Apply.{Own, node_cases, own_node, id-refl}
-use Rattle.zarr_changes.specs.Edits.{with_chunk as held_with}
+use Rattle.zarr_changes.specs.Edits.{placed_chunk}
 use Rattle.zarr_changes.specs.Sets.{add_refusal, text_refusal, set_refusal, chunk_of_node, chunk_in}
 use Rattle.zarr_changes.proofs.EditLaws.{text-law}
 use Rattle.zarr_changes.proofs.EntryLaws.{index_total}
@@ -40,7 +40,7 @@ use Rattle.store_api.specs.Running.{Program, ◌>>=◌}
 use Rattle.session.specs.declared.chunks.Value.{Value}
 use Rattle.session.specs.declared.chunks.Value.TheVariants.{Bytes as Is_bytes}
 use Rattle.session.specs.Sessions.{SessionState, writes, base_nodes, nodes_seen}
-use Rattle.session.specs.Editing.{if_writes, unless_bad, unless_refused, node_fault, added, node_added, drawn_node, with_node, meta_set, with_text as session_with_text}
+use Rattle.session.specs.Editing.{if_writes, unless_bad, unless_refused, node_fault, added, node_added, drawn_node, with_node, meta_set, text_changed}
 use Rattle.session.specs.Chunks.{set_program, put_chunk, put_object, unless_fault, with_chunk, most_inline, get_program, read_at, read_found}
 use Rattle.session.proofs.Adding.{seen-added}
 use Rattle.zarr_keys.specs.declared.values.KeyValue.{KeyValue}
@@ -117,7 +117,7 @@ no_bytes place = None
 set_text : (s t : SessionState) (p text : List ℕ) (n : Node) → get (nodes_seen s) p ≡ Some n → meta_set s p text ≡ Ok t → meta_value t p ≡ Bytes text
 unfolding meta_set
 set_text s t p text n f e =
-    let done : session_with_text s p text ≡ t = result_same _ _ (taken (text_refusal (nodes_seen s) p text) _ t (good (node_fault (meta_of text)) _ t (written (writes s) _ t e))) in
+    let done : text_changed s p text ≡ t = result_same _ _ (taken (text_refusal (nodes_seen s) p text) _ t (good (node_fault (meta_of text)) _ t (written (writes s) _ t e))) in
     let tree : Tree = record { nodes = base_nodes s; chunk = λ q i. None } in
     ap (λ (x : SessionState). meta_value x p) (sym done)
     ∙ ap (λ (c : Changes). node_value (get (nodes_under c (base_nodes s)) p)) (text-law no_bytes s.held tree p text)
@@ -136,10 +136,10 @@ module _ (s t : SessionState) (p i bytes : List ℕ) where
   seen = get (nodes_seen s) p
 
   -- the read of a chunk that has its own entry
-  by_grid : (n : Node) (array : ArrayView) → seen ≡ Some n → array_in n.text ≡ Some array → in_grid array i ≡ true → get_program (record s { held = held_with s.held i (Inline bytes) (Some n) }) p i ≡ Done (Ok (Is_bytes bytes))
+  by_grid : (n : Node) (array : ArrayView) → seen ≡ Some n → array_in n.text ≡ Some array → in_grid array i ≡ true → get_program (record s { held = placed_chunk s.held i (Inline bytes) (Some n) }) p i ≡ Done (Ok (Is_bytes bytes))
   unfolding get_program
   by_grid n array f a g =
-      let u = record s { held = held_with s.held i (Inline bytes) (Some n) } in
+      let u = record s { held = placed_chunk s.held i (Inline bytes) (Some n) } in
       let own : entry_in u.held.chunks n.id i ≡ Some (Some (Inline bytes)) =
       entry-with n.id i n.id i s.held.chunks (Some (Inline bytes))
       ∙ (λ k. cond (id-refl n.id k && numbers-refl i k) (Some (Some (Inline bytes))) (entry_in s.held.chunks n.id i)) in
@@ -153,7 +153,7 @@ module _ (s t : SessionState) (p i bytes : List ℕ) where
       let there = some_node seen _ r in
       let array = some_array (array_in there.0.text) _ there.2 in
       let within = not_not (in_grid array.0 i) (passed (not (in_grid array.0 i)) OutOfGrid _ array.2).0 in
-      ap (λ (o : Option Node). get_program (record s { held = held_with s.held i (Inline bytes) o }) p i) there.1
+      ap (λ (o : Option Node). get_program (record s { held = placed_chunk s.held i (Inline bytes) o }) p i) there.1
       ∙ by_grid there.0 array.0 there.1 array.1 within
 
   by_object : (o : Option Id12) → put_object s p i bytes o ≡ Done (Ok t) → chunk_program t p i ≡ Done (Ok (Bytes bytes))

@@ -16,9 +16,10 @@ abbrev pub GetRefused : Program KeyValue → (old back : SessionState) → Refus
 GetRefused p old back NoMemory = back ≡ old
 GetRefused p old back why = (p ≡ Done (Err why)) × (back ≡ old)
 
--- the key was read without any operation; or a machine has the program to run, but for what its value is at the key, and the session; or this was
--- refused
-abbrev pub Gets : (program : Program KeyValue) → SessionState → Result KeyGetting (SessionState × Refusal) → Type 0
+-- the key was read without any operation; or a machine has the program to run, but for what its
+-- value is at the key, and the session; or this was refused
+abbrev pub Gets : (program : Program KeyValue) → SessionState
+    → Result KeyGetting (SessionState × Refusal) → Type 0
 Gets p s (Ok (Ready t value)) = (p ≡ Done (Ok value)) × (t ≡ s)
 Gets p s (Ok (Again m)) = (p ≡ (get_rest m >>= answered)) × IsAsk (get_rest m) × (get_session m ≡ s)
 Gets p s (Err refused) = GetRefused p s refused.0 refused.1

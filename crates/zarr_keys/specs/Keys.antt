@@ -1,5 +1,6 @@
--- A Zarr store's view of a session: what its keys have, and what it is to set and to erase them. (Zarr v3 core specification, "Stores", "Chunk
--- key encoding". That erasing a node's metadata drops the node is own.)
+-- A Zarr store's view of a session: what its keys have, and what it is to set and to erase
+-- them. (Zarr v3 core specification, "Stores", "Chunk key encoding". That erasing a node's
+-- metadata drops the node is own.)
 use Rattle.std.specs.Prelude.{ℕ, List, Option, Some, None, Result, Ok, Err}
 use Rattle.std.specs.FinMap.{get}
 use Rattle.ice_ids.specs.declared.Id8.{Id8}
@@ -55,7 +56,8 @@ session_of (Ok added) = Ok added.1
 session_of (Err why) = Err why
 
 -- another text where a node is there, else one more node, a group or an array, as the text says
-abbrev pub put_over : Option Node → SessionState → (path text : List ℕ) → Result SessionState Refusal
+abbrev pub put_over : Option Node → SessionState → (path text : List ℕ)
+    → Result SessionState Refusal
 put_over (Some node) s path text = meta_set s path text
 put_over None s path text = session_of (node_added s path text)
 
@@ -67,7 +69,8 @@ set_at s bytes None = Done (Err BadKey)
 set_at s bytes (Some (Meta path)) = Done (meta_put s path bytes)
 set_at s bytes (Some (Chunk path index)) = set_program s path index bytes
 
--- the session in which a key has these bytes, or the first refusal: BadKey, those of the edit that sets the metadata or the chunk
+-- the session in which a key has these bytes, or the first refusal: BadKey, those of the edit that
+-- sets the metadata or the chunk
 unfoldable pub key_set_program : SessionState → (key bytes : List ℕ) → Program SessionState
 key_set_program s key bytes = set_at s bytes (key_of key)
 
@@ -77,6 +80,7 @@ erased_at s None = Err BadKey
 erased_at s (Some (Meta path)) = node_dropped s path
 erased_at s (Some (Chunk path index)) = chunk_unset s path index
 
--- the session without the node, and all beneath it, or without the chunk; or the first refusal: BadKey, those of that edit
+-- the session without the node, and all beneath it, or without the chunk; or the first
+-- refusal: BadKey, those of that edit
 unfoldable pub key_erased : SessionState → (key : List ℕ) → Result SessionState Refusal
 key_erased s key = erased_at s (key_of key)

@@ -7,4 +7,6 @@ use Rattle.zarr_keys.specs.Keys.{key_get_program, key_set_program}
 
 -- what was set at a key without any operation is read there
 abbrev pub ReadBackLaw : Type 0
-ReadBackLaw = (s t : SessionState) (key bytes : List ℕ) → key_set_program s key bytes ≡ Done (Ok t) → key_get_program t key ≡ Done (Ok (Bytes bytes))
+ReadBackLaw =
+    (s t : SessionState) (key bytes : List ℕ) → key_set_program s key bytes ≡ Done (Ok t)
+    → key_get_program t key ≡ Done (Ok (Bytes bytes))

@@ -5,7 +5,7 @@ ghost use Rattle.std.specs.FinMap.{get};
 ghost use Rattle.store_api.specs.Program.{Done};
 ghost use Rattle.session.specs.Sessions.{nodes_seen};
 ghost use Rattle.session.specs.Editing.{Leaves};
-ghost use Rattle.session.specs.Setting.{Sets};
+ghost use Rattle.session.specs.Setting.{SetBegun};
 ghost use Rattle.zarr_keys.specs.Keys.{key_set_program, key_erased, meta_put};
 ghost use Rattle.zarr_keys.specs.inside.Working.{Puts};
 
@@ -37,7 +37,7 @@ fn put_meta(session: &mut Session, path: &Path, text: &[u8]) -> Result<(), Refus
 
 /// Sets the key of a node's metadata.
 fn set_node(mut session: Session, path: &Path, text: &[u8]) -> Result<Setting, (Session, Refusal)>
-    ensures { Sets (Done (meta_put session path.now text.now)) session result }
+    ensures { SetBegun (Done (meta_put session path.now text.now)) session result }
 {
     match put_meta(&mut session, path, text) {
         Ok(()) => Ok(Setting::Ready(session)),
@@ -55,7 +55,7 @@ pub fn key_set(
     key: &str,
     bytes: &[u8],
 ) -> Result<Setting, (Session, Refusal)>
-    ensures { Sets (key_set_program session key.now bytes.now) session result }
+    ensures { SetBegun (key_set_program session key.now bytes.now) session result }
 {
     match named(alloc, key) {
         Ok(ZarrKey::Meta(path)) => set_node(session, &path, bytes),

@@ -12,7 +12,7 @@ use crate::parts::{
     fill_of, has_attributes, has_encoding, has_format, has_no_transformers, kind_of, node_type_of,
 };
 use crate::shapes::{chunks_of, shape_of};
-use crate::views::{ArrayView, NodeType, View};
+use crate::views::{ArrayView, MetaView, NodeType};
 use ice_base::Text;
 use serde_json::Value;
 use std::alloc::Global;
@@ -63,19 +63,19 @@ fn array_of(alloc: Global, value: &Value) -> Result<ArrayView, MetaFault>
 
 /// The view of a group.
 #[tactic(auto, unfolding(crate::specs::Meta::group_of))]
-fn group_of(alloc: Global, value: &Value) -> Result<View, MetaFault>
+fn group_of(alloc: Global, value: &Value) -> Result<MetaView, MetaFault>
     ensures { Tells (group_of (view value.now)) result }
 {
     if !has_attributes(value) {
         return Err(MetaFault::Attributes);
     }
     known_members(alloc, NodeType::Group, value)?;
-    Ok(View::Group)
+    Ok(MetaView::Group)
 }
 
 /// The view of a value.
 #[tactic(auto, unfolding(crate::specs::Meta::view_of))]
-pub fn view_of(alloc: Global, value: &Value) -> Result<View, MetaFault>
+pub fn view_of(alloc: Global, value: &Value) -> Result<MetaView, MetaFault>
     ensures { Tells (view_of (view value.now)) result }
 {
     if !value.is_object() {
@@ -86,6 +86,6 @@ pub fn view_of(alloc: Global, value: &Value) -> Result<View, MetaFault>
     }
     match node_type_of(value).ok_or(MetaFault::NodeType)? {
         NodeType::Group => group_of(alloc, value),
-        NodeType::Array => Ok(View::Array(array_of(alloc, value)?)),
+        NodeType::Array => Ok(MetaView::Array(array_of(alloc, value)?)),
     }
 }

@@ -32,4 +32,4 @@ pub use metas::Meta;
 pub use plain::{codec_text, text_about};
 pub use reader::MetaReader;
 pub use shared::SharedMeta;
-pub use views::{ArrayView, NodeType, View};
+pub use views::{ArrayView, MetaView, NodeType};

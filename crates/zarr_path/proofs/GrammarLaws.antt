@@ -225,3 +225,6 @@ pub reads_words : (text : List ℕ) (r : Result (List ℕ) PathFault) → ReadsP
 reads_words text (Ok path) h = (h.0, spelled_from text (path_parts text (none_fault (path_fault text) h.1)))
 reads_words text (Err fault) (inl e) = inl e
 reads_words text (Err fault) (inr e) = inr (fault_words text fault e)
+
+pub unforced : (text : List ℕ) → path_fault text ≢ Some f.NoMemory
+unforced text e = fault_words text f.NoMemory e

@@ -1,5 +1,6 @@
 -- The grammar of paths in its own words.
-use Rattle.std.specs.Prelude.{◌≡◌, ◌≢◌, ℕ, ◌+◌, ◌<◌, ◌≤◌, true, List, [], ◌∷◌, ◌++◌, length, Some, Result, Ok, Err, ◌↔◌, ◌⊎◌, codes}
+use Rattle.std.specs.Prelude.{◌≡◌, ◌≢◌, ℕ, ◌+◌, ◌<◌, ◌≤◌, true, List, [], ◌∷◌, ◌++◌}
+use Rattle.std.specs.Prelude.{length, Some, Result, Ok, Err, ◌↔◌, ◌⊎◌, codes}
 use Rattle.std.specs.List.{All, AllByRecursion}
 use Rattle.zarr_path.specs.declared.paths.PathFault.{PathFault}
 use Rattle.zarr_path.specs.declared.paths.PathFault.TheVariants as f
@@ -9,8 +10,8 @@ use Rattle.zarr_path.specs.Paths.{root, joined, is_name, is_path, path_fault, fo
 abbrev pub IsPart : List ℕ → Type 0
 IsPart part = All (λ b. b ≢ 47) part
 
--- Zarr v3 core specification, "Node names": a name isn't empty, has no slash, isn't made of periods alone, and doesn't
--- begin with `__`
+-- Zarr v3 core specification, "Node names": a name isn't empty, has no slash, isn't made of periods
+-- alone, and doesn't begin with `__`
 pub record IsName (name : List ℕ) : Type 0 where
   pub not_empty : name ≢ []
   pub no_slash : IsPart name
@@ -54,15 +55,17 @@ IsFault text f.NoMemory = ⊥
 -- `is_path` and `path_fault` say exactly this
 abbrev pub GrammarLaw : Type 0
 GrammarLaw = (text : List ℕ)
-    → ((is_path text ≡ true) ↔ IsSpelled text) × ((fault : PathFault) → (path_fault text ≡ Some fault) ↔ IsFault text fault)
+    → ((is_path text ≡ true) ↔ IsSpelled text)
+    × ((fault : PathFault) → (path_fault text ≡ Some fault) ↔ IsFault text fault)
 
--- what reading a text answers, in these words: itself, or its fault; want of memory may come instead
+-- what reading a text answers, in these words: itself, or its fault;
+-- want of memory may come instead
 abbrev pub ReadsSpelled : List ℕ → Result (List ℕ) PathFault → Type 0
 ReadsSpelled text (Ok path) = (path ≡ text) × IsSpelled text
 ReadsSpelled text (Err fault) = (fault ≡ f.NoMemory) ⊎ IsFault text fault
 
--- Zarr v3 core specification, "Concepts and terminology": a path other than `/` is its parent's, a slash unless that is
--- `/`, and the node's name
+-- Zarr v3 core specification, "Concepts and terminology": a path other than `/` is its parent's, a
+-- slash unless that is `/`, and the node's name
 pub record IsNamed (path : List ℕ) : Type 0 where
   pub name : List ℕ
   pub valid : is_name name ≡ true

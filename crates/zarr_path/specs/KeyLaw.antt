@@ -19,9 +19,11 @@ Gives z result = (result ≡ Ok z) ⊎ (result ≡ Err f.NoMemory)
 -- reading what was written gives it back, for every path and every index
 abbrev pub RoundTripLaw : Type 0
 RoundTripLaw = (path : List ℕ) → IsTrue (is_path path)
-    → ((result : Result ZarrKey KeyFault) → ReadsKey (meta_key path) result → Gives (k.Meta path) result)
+    → ((result : Result ZarrKey KeyFault) → ReadsKey (meta_key path) result
+    → Gives (k.Meta path) result)
     × ((index : List ℕ) → IsTrue (is_index index)
-    → (result : Result ZarrKey KeyFault) → ReadsKey (chunk_key path index) result → Gives (k.Chunk path index) result)
+    → (result : Result ZarrKey KeyFault) → ReadsKey (chunk_key path index) result
+    → Gives (k.Chunk path index) result)
 
 -- what has one key is the same
 abbrev pub OneKeyLaw : Type 0

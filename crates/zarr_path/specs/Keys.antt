@@ -1,5 +1,7 @@
 -- The keys under which a Zarr store keeps the metadata and the chunks of a node.
-use Rattle.std.specs.Prelude.{◌≡◌, ℕ, ◌^◌, not, ◌&&◌, nat_lt, if◌then◌else◌, List, [], ◌∷◌, ◌++◌, drop, map, reverse, Option, Some, None, option_map, option_and_then, Result, Ok, Err, IsTrue, codes}
+use Rattle.std.specs.Prelude.{◌≡◌, ℕ, ◌^◌, not, ◌&&◌, nat_lt, if◌then◌else◌}
+use Rattle.std.specs.Prelude.{List, [], ◌∷◌, ◌++◌, drop, map, reverse, Option, Some, None}
+use Rattle.std.specs.Prelude.{option_map, option_and_then, Result, Ok, Err, IsTrue, codes}
 use Rattle.std.specs.Fmt.{decimal}
 use Rattle.std.specs.Str.{bytes_eq}
 use Rattle.std.specs.Str.Parse.{digits_value}
@@ -10,7 +12,8 @@ use Rattle.zarr_path.specs.declared.keys.ZarrKey.TheVariants as k
 use Rattle.zarr_path.specs.Paths.{root, same_path, folder, is_path, parts_of, joined}
 use Rattle.zarr_path.specs.Indices.{is_index}
 
--- Zarr v3 core specification, "Stores": what a node's keys begin with: nothing for `/`, else its names and a slash
+-- Zarr v3 core specification, "Stores": what a node's keys begin with: nothing for
+-- `/`, else its names and a slash
 abbrev pub key_front : List ℕ → List ℕ
 key_front path = drop 1 (folder path)
 
@@ -18,14 +21,16 @@ key_front path = drop 1 (folder path)
 unfoldable pub meta_key : List ℕ → List ℕ
 meta_key path = key_front path ++ codes "zarr.json"
 
--- Zarr v3 core specification, "Chunk key encoding", `default` with the separator `/`: `c`, and each number of the index
+-- Zarr v3 core specification, "Chunk key encoding", `default` with the separator `/`:
+-- `c`, and each number of the index
 unfoldable pub chunk_key : List ℕ → List ℕ → List ℕ
 chunk_key path index = key_front path ++ (codes "c" ++ joined (map decimal index))
 
 -- this is the key of that metadata or chunk
 abbrev pub IsKeyOf : List ℕ → ZarrKey → Type 0
 IsKeyOf key (k.Meta path) = IsTrue (is_path path) × (key ≡ meta_key path)
-IsKeyOf key (k.Chunk path index) = IsTrue (is_path path) × IsTrue (is_index index) × (key ≡ chunk_key path index)
+IsKeyOf key (k.Chunk path index) =
+    IsTrue (is_path path) × IsTrue (is_index index) × (key ≡ chunk_key path index)
 
 -- what reading a key says: whose it is, or that it is nobody's; want of memory may come instead
 abbrev pub SaysWhose : List ℕ → Result ZarrKey KeyFault → Type 0
@@ -38,13 +43,15 @@ SaysWhose key (Err f.NoMemory) = Unit {0}
 -- the number of 32 bits that a part spells as `decimal` writes it
 unfoldable pub number_of : List ℕ → Option ℕ
 number_of part =
-    if bytes_eq (decimal (digits_value 10 part)) part && nat_lt (digits_value 10 part) (2 ^ 32) then Some (digits_value 10 part)
+    if bytes_eq (decimal (digits_value 10 part)) part && nat_lt (digits_value 10 part) (2 ^ 32)
+    then Some (digits_value 10 part)
     else None
 
 -- the path of names that stand each behind a slash
 unfoldable pub path_spelled : List ℕ → Option (List ℕ)
 path_spelled [] = Some root
-path_spelled (b ∷ bs) = if is_path (b ∷ bs) && not (same_path (b ∷ bs) root) then Some (b ∷ bs) else None
+path_spelled (b ∷ bs) =
+    if is_path (b ∷ bs) && not (same_path (b ∷ bs) root) then Some (b ∷ bs) else None
 
 -- the parts of a text, the last one first
 abbrev pub parts_back : List ℕ → List (List ℕ)
@@ -54,14 +61,16 @@ parts_back text = reverse (parts_of text)
 abbrev pub chunk_at : List (List ℕ) → List ℕ → Option ZarrKey
 chunk_at [] index = None
 chunk_at (part ∷ before) index =
-    if bytes_eq part (codes "c") then option_map (λ path. k.Chunk path index) (path_spelled (joined (reverse before)))
+    if bytes_eq part (codes "c")
+    then option_map (λ path. k.Chunk path index) (path_spelled (joined (reverse before)))
     else option_and_then (λ n. chunk_at before (n ∷ index)) (number_of part)
 
 -- whose key a text of these parts is, the last one first
 abbrev pub key_at : List (List ℕ) → Option ZarrKey
 key_at [] = None
 key_at (part ∷ before) =
-    if bytes_eq part (codes "zarr.json") then option_map k.Meta (path_spelled (joined (reverse before)))
+    if bytes_eq part (codes "zarr.json")
+    then option_map k.Meta (path_spelled (joined (reverse before)))
     else chunk_at (part ∷ before) []
 
 -- whose key a text is

@@ -1,5 +1,8 @@
--- Paths of nodes, as the bytes of their texts: tests and functions that compute. `Grammar` says the same in words.
-use Rattle.std.specs.Prelude.{◌≡◌, ℕ, ◌+◌, Bool, not, ◌&&◌, ◌||◌, ◌==◌, nat_eq, nat_lt, if◌then◌else◌, List, [], ◌∷◌, ◌++◌, length, drop, Option, Some, None, is_none, option_map, Result, Ok, Err, ◌⊎◌, codes}
+-- Paths of nodes, as the bytes of their texts: tests and functions that compute.
+-- `Grammar` says the same in words.
+use Rattle.std.specs.Prelude.{◌≡◌, ℕ, ◌+◌, Bool, not, ◌&&◌, ◌||◌, ◌==◌, nat_eq}
+use Rattle.std.specs.Prelude.{nat_lt, if◌then◌else◌, List, [], ◌∷◌, ◌++◌, length, drop}
+use Rattle.std.specs.Prelude.{Option, Some, None, is_none, option_map, Result, Ok, Err, ◌⊎◌, codes}
 use Rattle.std.specs.declared.cmp.Ordering.{Ordering}
 use Rattle.std.specs.Ordering.{nat_cmp, eq_by_cmp}
 use Rattle.std.specs.Cmp.Lexicographic.{slice_cmp}
@@ -17,7 +20,9 @@ root = 47 ∷ []
 
 -- whether what stands between two slashes is a name (Zarr v3 core specification, "Node names")
 unfoldable pub is_name : List ℕ → Bool
-is_name name = not (length name == 0) && not (list_all (λ b. b == 46) name) && not (starts_with nat_eq name (codes "__"))
+is_name name =
+    not (length name == 0) && not (list_all (λ b. b == 46) name)
+    && not (starts_with nat_eq name (codes "__"))
 
 -- what stands between the slashes of a text
 abbrev pub parts_of : List ℕ → List (List ℕ)
@@ -34,14 +39,16 @@ path_cmp = slice_cmp nat_cmp
 abbrev pub same_path : List ℕ → List ℕ → Bool
 same_path p q = eq_by_cmp path_cmp p q
 
--- the names of a path stand behind its slashes, and `/` has none (Zarr v3 core specification, "Concepts and terminology")
+-- the names of a path stand behind its slashes, and `/` has none (Zarr v3 core
+-- specification, "Concepts and terminology")
 unfoldable pub names_of : List ℕ → List (List ℕ)
 names_of path = if same_path path root then [] else parts_of (drop 1 path)
 
 -- where the first of these names that is none begins, if they stand one behind another from `at` on
 abbrev pub first_bad : ℕ → List (List ℕ) → Option ℕ
 first_bad at [] = None
-first_bad at (name ∷ names) = if is_name name then first_bad (at + length name + 1) names else Some at
+first_bad at (name ∷ names) =
+    if is_name name then first_bad (at + length name + 1) names else Some at
 
 -- why a text is no path: the first fault in the order `Long`, `Relative`, `Name`
 unfoldable pub path_fault : List ℕ → Option PathFault
@@ -54,7 +61,8 @@ path_fault text =
 abbrev pub is_path : List ℕ → Bool
 is_path text = is_none (path_fault text)
 
--- what reading a text as a path answers: itself, or its first fault; want of memory may come instead
+-- what reading a text as a path answers: itself, or its first fault;
+-- want of memory may come instead
 abbrev pub ReadsPath : List ℕ → Result (List ℕ) PathFault → Type 0
 ReadsPath text (Ok path) = (path ≡ text) × (path_fault text ≡ None)
 ReadsPath text (Err fault) = (fault ≡ f.NoMemory) ⊎ (path_fault text ≡ Some fault)

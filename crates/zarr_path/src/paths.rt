@@ -136,15 +136,16 @@ impl Model for Path {
 impl Path {
     ghost use Rattle.zarr_path.specs.Grammar.{ReadsSpelled};
     ghost use Rattle.zarr_path.specs.Paths.{ReadsPath, is_path, root, parent, is_within, is_beneath};
-    ghost use Rattle.std.specs.Prelude.{IsTrue};
+    ghost use Rattle.std.specs.Prelude.{IsTrue, Err, None};
 
     /// Reads a text as a path (Zarr v3 core specification, "Node names"): `/`, or `/` and names
     /// joined by `/`, of at most [`MOST_PATH_BYTES`] bytes. A name isn't empty, isn't made of
     /// periods alone and doesn't begin with `__`. The first fault is told, in the order of
-    /// [`PathFault`].
+    /// [`PathFault`]; memory is taken for a path alone.
     pub fn read(alloc: Global, text: &str) -> Result<Path, PathFault>
         ensures value { ReadsPath text.now result }
         ensures spelled { ReadsSpelled text.now result }
+        ensures memory { result ≡ Err PathFault.NoMemory → path_fault text.now ≡ None }
     {
         match path_fault(text) {
             Some(fault) => Err(fault),

@@ -15,7 +15,7 @@ use Rattle.zarr_tree.specs.declared.lists.ArrayChunks.{ArrayChunks}
 use Rattle.zarr_tree.specs.Nodes.{Node, is_group, is_array, same_numbers}
 use Rattle.zarr_tree.specs.Changes.{is_gone, has_id}
 use Rattle.zarr_tree.specs.Touched.{lists, lists_index, lists_chunk, IdsAscend, IndicesAscend, IsNew, IsDeleted, IsUpdated, IsUpdatedChunk}
-use Rattle.zarr_tree.specs.Held.{Entry, meta_in, entry_in, changes_of, nodes_over, indices_in_order, Rows, ids_of, gone_rows, updated_rows, indices_of, written_rows, touched}
+use Rattle.zarr_tree.specs.Held.{HeldEntry, meta_in, entry_in, changes_of, nodes_over, indices_in_order, Rows, ids_of, gone_rows, updated_rows, indices_of, written_rows, touched}
 use Rattle.zarr_tree.specs.Laws.{TouchedLaw, OrderedLaw}
 use Rattle.zarr_tree.proofs.Maps.{Path, Index}
 use Rattle.zarr_tree.proofs.Apply.{id-true, id-refl, first, second, both}
@@ -164,29 +164,29 @@ absorbed true false = refl
 absorbed false false = refl
 
 module _ {P : Type 0} where
-  find-any : (f : Entry P → Bool) (rows : List (Entry P)) → is_some (find f rows) ≡ list_any f rows
+  find-any : (f : HeldEntry P → Bool) (rows : List (HeldEntry P)) → is_some (find f rows) ≡ list_any f rows
   find-any f [] = refl
   find-any f (e ∷ es) = elim (f e) as (λ b. is_some (cond b (Some e) (find f es)) ≡ (b || list_any f es)) [ true ↦ refl | false ↦ find-any f es ]
 
-  lists-indices : (rows : List (Entry P)) (id : Id8) (i : Index) → lists_index (indices_of rows id) i ≡ list_any (λ (e : Entry P). same_id8 e.0 id && same_numbers e.1 i) rows
+  lists-indices : (rows : List (HeldEntry P)) (id : Id8) (i : Index) → lists_index (indices_of rows id) i ≡ list_any (λ (e : HeldEntry P). same_id8 e.0 id && same_numbers e.1 i) rows
   lists-indices [] id i = refl
-  lists-indices (e ∷ es) id i = elim (same_id8 e.0 id) as (λ b. lists_index (map (λ (e : Entry P). e.1) (cond b (e ∷ filter (λ (e : Entry P). same_id8 e.0 id) es) (filter (λ (e : Entry P). same_id8 e.0 id) es))) i ≡ ((b && same_numbers e.1 i) || list_any (λ (e : Entry P). same_id8 e.0 id && same_numbers e.1 i) es)) [
+  lists-indices (e ∷ es) id i = elim (same_id8 e.0 id) as (λ b. lists_index (map (λ (e : HeldEntry P). e.1) (cond b (e ∷ filter (λ (e : HeldEntry P). same_id8 e.0 id) es) (filter (λ (e : HeldEntry P). same_id8 e.0 id) es))) i ≡ ((b && same_numbers e.1 i) || list_any (λ (e : HeldEntry P). same_id8 e.0 id && same_numbers e.1 i) es)) [
     | true ↦ ap (λ b. same_numbers e.1 i || b) (lists-indices es id i)
     | false ↦ lists-indices es id i
   ]
 
   -- an array with an entry at some index has one
-  entry-any : (rows : List (Entry P)) (id : Id8) (i : Index) → list_any (λ (e : Entry P). same_id8 e.0 id && same_numbers e.1 i) rows ≡ true → list_any (λ (e : Entry P). same_id8 e.0 id) rows ≡ true
+  entry-any : (rows : List (HeldEntry P)) (id : Id8) (i : Index) → list_any (λ (e : HeldEntry P). same_id8 e.0 id && same_numbers e.1 i) rows ≡ true → list_any (λ (e : HeldEntry P). same_id8 e.0 id) rows ≡ true
   entry-any [] id i h = cc
-  entry-any (e ∷ es) id i h = elim (same_id8 e.0 id) as (λ b. ((b && same_numbers e.1 i) || list_any (λ (e : Entry P). same_id8 e.0 id && same_numbers e.1 i) es) ≡ true → (b || list_any (λ (e : Entry P). same_id8 e.0 id) es) ≡ true) [
+  entry-any (e ∷ es) id i h = elim (same_id8 e.0 id) as (λ b. ((b && same_numbers e.1 i) || list_any (λ (e : HeldEntry P). same_id8 e.0 id && same_numbers e.1 i) es) ≡ true → (b || list_any (λ (e : HeldEntry P). same_id8 e.0 id) es) ≡ true) [
     | true ↦ λ _. refl
     | false ↦ λ k. entry-any es id i k
   ] h
 
-  abbrev listed : List (Entry P) → Id8 → ArrayChunks
+  abbrev listed : List (HeldEntry P) → Id8 → ArrayChunks
   listed rows id = record { node = id; chunks = indices_in_order (indices_of rows id) }
 
-  lists-chunks : (rows : List (Entry P)) (ids : List Id8) (id : Id8) (i : Index) → lists_chunk (map (listed rows) ids) id i ≡ (lists ids id && lists_index (indices_in_order (indices_of rows id)) i)
+  lists-chunks : (rows : List (HeldEntry P)) (ids : List Id8) (id : Id8) (i : Index) → lists_chunk (map (listed rows) ids) id i ≡ (lists ids id && lists_index (indices_in_order (indices_of rows id)) i)
   lists-chunks rows [] id i = refl
   lists-chunks rows (x ∷ xs) id i = elim (same_id8 x id) as (λ b. same_id8 x id ≡ b → ((b && lists_index (indices_in_order (indices_of rows x)) i) || lists_chunk (map (listed rows) xs) id i) ≡ ((b || lists xs id) && lists_index (indices_in_order (indices_of rows id)) i)) [
     | true ↦ λ e.
@@ -194,11 +194,11 @@ module _ {P : Type 0} where
     | false ↦ λ e. lists-chunks rows xs id i
   ] refl
 
-  listed-nodes : (rows : List (Entry P)) (ids : List Id8) → map (λ (array : ArrayChunks). array.node) (map (listed rows) ids) ≡ ids
+  listed-nodes : (rows : List (HeldEntry P)) (ids : List Id8) → map (λ (array : ArrayChunks). array.node) (map (listed rows) ids) ≡ ids
   listed-nodes rows [] = refl
   listed-nodes rows (x ∷ xs) = λ i. x ∷ listed-nodes rows xs i
 
-  listed-chunks : (rows : List (Entry P)) (ids : List Id8) → AllByRecursion (λ (array : ArrayChunks). IndicesAscend array.chunks) (map (listed rows) ids)
+  listed-chunks : (rows : List (HeldEntry P)) (ids : List Id8) → AllByRecursion (λ (array : ArrayChunks). IndicesAscend array.chunks) (map (listed rows) ids)
   listed-chunks rows [] = tt
   listed-chunks rows (x ∷ xs) = (indices-rise (indices_of rows x), listed-chunks rows xs)
 
@@ -267,15 +267,15 @@ module _ {P : Type 0} where
       )
 
       writes : Path → Node → Bool
-      writes q x = list_any (λ (e : Entry P). same_id8 e.0 x.id) h.chunks
+      writes q x = list_any (λ (e : HeldEntry P). same_id8 e.0 x.id) h.chunks
 
-      parts : (id : Id8) (i : Index) → lists_chunk (touched h t.nodes).updated_chunks id i ≡ (lists (ids_of is_array (written_rows h t.nodes)) id && list_any (λ (e : Entry P). same_id8 e.0 id && same_numbers e.1 i) h.chunks)
+      parts : (id : Id8) (i : Index) → lists_chunk (touched h t.nodes).updated_chunks id i ≡ (lists (ids_of is_array (written_rows h t.nodes)) id && list_any (λ (e : HeldEntry P). same_id8 e.0 id && same_numbers e.1 i) h.chunks)
       parts id i =
           lists-chunks h.chunks (ids_of is_array (written_rows h t.nodes)) id i
           ∙ ap (λ b. lists (ids_of is_array (written_rows h t.nodes)) id && b) (lists_index-in_order (indices_of h.chunks id) i ∙ lists-indices h.chunks id i)
 
-      entry_is : (id : Id8) (i : Index) → is_some ((changes_of bytes_at h).chunks id i) ≡ list_any (λ (e : Entry P). same_id8 e.0 id && same_numbers e.1 i) h.chunks
-      entry_is id i = some-map _ (entry_in h.chunks id i) ∙ some-map _ (find (λ (e : Entry P). same_id8 e.0 id && same_numbers e.1 i) h.chunks) ∙ find-any (λ (e : Entry P). same_id8 e.0 id && same_numbers e.1 i) h.chunks
+      entry_is : (id : Id8) (i : Index) → is_some ((changes_of bytes_at h).chunks id i) ≡ list_any (λ (e : HeldEntry P). same_id8 e.0 id && same_numbers e.1 i) h.chunks
+      entry_is id i = some-map _ (entry_in h.chunks id i) ∙ some-map _ (find (λ (e : HeldEntry P). same_id8 e.0 id && same_numbers e.1 i) h.chunks) ∙ find-any (λ (e : HeldEntry P). same_id8 e.0 id && same_numbers e.1 i) h.chunks
 
       chunk_to : (id : Id8) (i : Index) → lists_chunk (touched h t.nodes).updated_chunks id i ≡ true → IsUpdatedChunk (changes_of bytes_at h) t id i
       chunk_to id i l =
@@ -290,7 +290,7 @@ module _ {P : Type 0} where
             path = u.path;
             node = u.node;
             found = u.found;
-            passes = ap (λ x. list_any (λ (e : Entry P). same_id8 e.0 x) h.chunks) u.same ∙ entry-any h.chunks id i e;
+            passes = ap (λ x. list_any (λ (e : HeldEntry P). same_id8 e.0 x) h.chunks) u.same ∙ entry-any h.chunks id i e;
             kind_of = u.kind_of;
             same = u.same;
           }) in

@@ -6,8 +6,8 @@ use Rattle.std.proofs.lemmas.Slice.Eq.{bytes_eq-Decides}
 use Rattle.zarr_path.proofs.OrderLaws.{same_path-true, same_path-refl}
 use Rattle.zarr_meta.specs.declared.kinds.IntKind.{IntKind}
 use Rattle.zarr_meta.specs.declared.views.ArrayView.{ArrayView}
-use Rattle.zarr_meta.specs.declared.views.View.{View}
-use Rattle.zarr_meta.specs.declared.views.View.TheVariants as view
+use Rattle.zarr_meta.specs.declared.views.MetaView.{MetaView}
+use Rattle.zarr_meta.specs.declared.views.MetaView.TheVariants as view
 use Rattle.zarr_meta.specs.Grids.{chunk_bytes}
 use Rattle.zarr_meta.specs.Kinds.{name_of, size_of, kind_named}
 use Rattle.zarr_meta.specs.Meta.{view_in}
@@ -104,12 +104,12 @@ array-trans a b c s r = record {
 }
 
 -- ---- views
-view-refl : (m : Option View) → view_change m m ≡ None
+view-refl : (m : Option MetaView) → view_change m m ≡ None
 view-refl None = refl
 view-refl (Some view.Group) = refl
 view-refl (Some (view.Array a)) = array_same a a (array-refl a)
 
-view-sym : (m n : Option View) → view_change m n ≡ None → view_change n m ≡ None
+view-sym : (m n : Option MetaView) → view_change m n ≡ None → view_change n m ≡ None
 view-sym None None h = refl
 view-sym None (Some view.Group) h = cc
 view-sym None (Some (view.Array b)) h = cc
@@ -120,7 +120,7 @@ view-sym (Some (view.Array a)) None h = cc
 view-sym (Some (view.Array a)) (Some view.Group) h = cc
 view-sym (Some (view.Array a)) (Some (view.Array b)) h = array_same b a (array-sym a b (same_array a b h))
 
-view-trans : (l m n : Option View) → view_change l m ≡ None → view_change m n ≡ None → view_change l n ≡ None
+view-trans : (l m n : Option MetaView) → view_change l m ≡ None → view_change m n ≡ None → view_change l n ≡ None
 view-trans None None n h g = g
 view-trans None (Some view.Group) n h g = cc
 view-trans None (Some (view.Array b)) n h g = cc
@@ -134,12 +134,12 @@ view-trans (Some (view.Array a)) (Some (view.Array b)) (Some view.Group) h g = c
 view-trans (Some (view.Array a)) (Some (view.Array b)) (Some (view.Array c)) h g = array_same a c (array-trans a b c (same_array a b h) (same_array b c g))
 
 -- what two views have in common
-record Alike (m n : Option View) : Type 0 where
+record Alike (m n : Option MetaView) : Type 0 where
   array : is_some (array_of_view m) ≡ is_some (array_of_view n)
   group : is_group_view m ≡ is_group_view n
   there : is_some m ≡ is_some n
 
-view_alike : (m n : Option View) → view_change m n ≡ None → Alike m n
+view_alike : (m n : Option MetaView) → view_change m n ≡ None → Alike m n
 view_alike None None h = record { array = refl; group = refl; there = refl }
 view_alike None (Some view.Group) h = cc
 view_alike None (Some (view.Array b)) h = cc
@@ -150,12 +150,12 @@ view_alike (Some (view.Array a)) None h = cc
 view_alike (Some (view.Array a)) (Some view.Group) h = cc
 view_alike (Some (view.Array a)) (Some (view.Array b)) h = record { array = refl; group = refl; there = refl }
 
-record Later (a : ArrayView) (n : Option View) : Type 0 where
+record Later (a : ArrayView) (n : Option MetaView) : Type 0 where
   array : ArrayView
   found : array_of_view n ≡ Some array
   same : SameArray a array
 
-later_array : (m n : Option View) → view_change m n ≡ None → (a : ArrayView) → array_of_view m ≡ Some a → Later a n
+later_array : (m n : Option MetaView) → view_change m n ≡ None → (a : ArrayView) → array_of_view m ≡ Some a → Later a n
 later_array None n h a e = cc
 later_array (Some view.Group) n h a e = cc
 later_array (Some (view.Array x)) None h a e = cc
@@ -203,7 +203,7 @@ fits-array m i e f = ap is_some f.found
 pub group_or_array : (m : Text) → is_metadata m ≡ true → (is_array m ≡ true) ⊎ (is_group m ≡ true)
 group_or_array m h = by_view (view_in m) h
   where
-    by_view : (o : Option View) → is_some o ≡ true → (is_some (array_of_view o) ≡ true) ⊎ (is_group_view o ≡ true)
+    by_view : (o : Option MetaView) → is_some o ≡ true → (is_some (array_of_view o) ≡ true) ⊎ (is_group_view o ≡ true)
     by_view None h = cc
     by_view (Some view.Group) h = inr refl
     by_view (Some (view.Array a)) h = inl refl
@@ -212,7 +212,7 @@ group_or_array m h = by_view (view_in m) h
 pub array_no_group : (m : Text) → is_array m ≡ true → is_group m ≡ true → ⊥
 array_no_group m a g = by_view (view_in m) a g
   where
-    by_view : (o : Option View) → is_some (array_of_view o) ≡ true → is_group_view o ≡ true → ⊥
+    by_view : (o : Option MetaView) → is_some (array_of_view o) ≡ true → is_group_view o ≡ true → ⊥
     by_view None a g = cc
     by_view (Some view.Group) a g = cc
     by_view (Some (view.Array x)) a g = cc

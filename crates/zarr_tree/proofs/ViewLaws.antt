@@ -13,8 +13,8 @@ use Rattle.zarr_meta.specs.declared.kinds.IntKind.{IntKind}
 use Rattle.zarr_meta.specs.declared.views.ArrayView.{ArrayView}
 use Rattle.zarr_meta.specs.declared.views.NodeType.{NodeType}
 use Rattle.zarr_meta.specs.declared.views.NodeType.TheVariants as node_type
-use Rattle.zarr_meta.specs.declared.views.View.{View}
-use Rattle.zarr_meta.specs.declared.views.View.TheVariants as view
+use Rattle.zarr_meta.specs.declared.views.MetaView.{MetaView}
+use Rattle.zarr_meta.specs.declared.views.MetaView.TheVariants as view
 use Rattle.zarr_meta.specs.Grids.{grid_of, are_each_below, are_lengths, has_few_chunks, has_small_chunks, has_grid, most_chunks}
 use Rattle.zarr_meta.specs.Kinds.{size_of, is_in_range}
 use Rattle.zarr_meta.specs.Meta.{◌>>=◌, passes, known_members, array_of, group_of, of_type, view_of, json_of, meta_of, view_in}
@@ -121,7 +121,7 @@ text_fit : (text : List ℕ) (a : ArrayView) → meta_of text ≡ Ok (view.Array
 unfolding meta_of
 text_fit text a h = let value = step (ok_or (json_of text) f.Json) view_of (view.Array a) h in view_fit value.0 a value.2
 
-array_viewed : (o : Option View) (a : ArrayView) → array_of_view o ≡ Some a → o ≡ Some (view.Array a)
+array_viewed : (o : Option MetaView) (a : ArrayView) → array_of_view o ≡ Some a → o ≡ Some (view.Array a)
 array_viewed (Some (view.Array x)) a h = ap (λ y. Some (view.Array y)) (some_same x a h)
   where
     some_same : (x y : ArrayView) → Some x ≡ Some y → x ≡ y

@@ -1,4 +1,5 @@
--- The numbers of the cases of conflicts. (Own: the order in which Icechunk's conflict detector names them.)
+-- The numbers of the cases of conflicts. (Own: the order in which Icechunk's
+-- conflict detector names them.)
 use Rattle.std.specs.Prelude.{ℕ}
 use Rattle.zarr_tree.specs.declared.cases.Case.{Case}
 use Rattle.zarr_tree.specs.declared.cases.Case.TheVariants as case

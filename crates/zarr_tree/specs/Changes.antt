@@ -1,5 +1,6 @@
 -- Changes: what edits have done to a tree. (Own.)
-use Rattle.std.specs.Prelude.{◌≡◌, ◌≢◌, ℕ, Bool, true, false, not, ◌&&◌, ◌||◌, if◌then◌else◌, List, ◌++◌, map, Option, Some, None, is_some, unwrap_or, Result, Ok, Err}
+use Rattle.std.specs.Prelude.{◌≡◌, ◌≢◌, ℕ, Bool, true, false, not, ◌&&◌, ◌||◌, if◌then◌else◌, List}
+use Rattle.std.specs.Prelude.{◌++◌, map, Option, Some, None, is_some, unwrap_or, Result, Ok, Err}
 use Rattle.std.specs.List.{list_any}
 use Rattle.std.specs.FinMap.{FinMap, empty, get, insert, retain_keys, entries, from_entries, keys}
 use Rattle.ice_ids.specs.declared.Id8.{Id8}
@@ -10,8 +11,8 @@ use Rattle.zarr_tree.specs.Nodes.{Node, is_metadata, is_array, SameFrozen, Fits,
 use Rattle.zarr_tree.specs.Trees.{Tree, node_at, IsWellFormed}
 use Rattle.zarr_tree.specs.Edits.{Edit, Add, SetMeta, Drop, Set, Unset, with_text, refusal, unless}
 
--- the ids of nodes that were dropped, the added nodes by their paths, other texts by the ids of their nodes, and by the id
--- of an array and an index the bytes of a chunk, or that none is held
+-- the ids of nodes that were dropped, the added nodes by their paths, other texts by the ids of
+-- their nodes, and by the id of an array and an index the bytes of a chunk, or that none is held
 pub record Changes : Type 0 where
   pub dropped : Id8 → Bool
   pub added : FinMap path_cmp Node
@@ -31,16 +32,20 @@ is_dropped dropped (Some n) = dropped n.id
 
 -- whether the node at a path is gone: it or one above it was dropped
 unfoldable pub is_gone : (dropped : Id8 → Bool) → FinMap path_cmp Node → List ℕ → Bool
-is_gone dropped nodes p = list_any (λ q. is_within q p && is_dropped dropped (get nodes q)) (keys nodes)
+is_gone dropped nodes p =
+    list_any (λ q. is_within q p && is_dropped dropped (get nodes q)) (keys nodes)
 
 -- the node with its other text, if it has one
 abbrev pub patched : (metas : Id8 → Option (List ℕ)) → Node → Node
 patched metas n = record n { text = unwrap_or (metas n.id) n.text }
 
 -- the added nodes, and at the other paths the tree's own that aren't gone, with their other texts
-unfoldable pub nodes_after : (added : FinMap path_cmp Node) (dropped : Id8 → Bool) (metas : Id8 → Option (List ℕ)) → FinMap path_cmp Node → FinMap path_cmp Node
+unfoldable pub nodes_after : (added : FinMap path_cmp Node)
+    (dropped : Id8 → Bool) (metas : Id8 → Option (List ℕ))
+    → FinMap path_cmp Node → FinMap path_cmp Node
 nodes_after added dropped metas nodes =
-    from_entries (entries added ++ map (λ row. (row.0, patched metas row.1)) (entries (retain_keys nodes (λ p. not (is_gone dropped nodes p)))))
+    from_entries (entries added ++ map (λ row. (row.0, patched metas row.1))
+    (entries (retain_keys nodes (λ p. not (is_gone dropped nodes p)))))
 
 abbrev pub nodes_under : Changes → FinMap path_cmp Node → FinMap path_cmp Node
 nodes_under c nodes = nodes_after c.added c.dropped c.metas nodes
@@ -55,9 +60,12 @@ abbrev pub own_chunk : Option Node → Id8 → Option (List ℕ) → Option (Lis
 own_chunk n id bytes = if has_id id n then bytes else None
 
 -- the chunk at an array of the new tree: the entry, else the tree's own
-abbrev pub chunk_of : (chunks : Id8 → List ℕ → Option (Option (List ℕ))) → Tree → (path index : List ℕ) → Option Node → Option (List ℕ)
+abbrev pub chunk_of : (chunks : Id8 → List ℕ → Option (Option (List ℕ))) → Tree
+    → (path index : List ℕ) → Option Node → Option (List ℕ)
 chunk_of chunks t p i None = None
-chunk_of chunks t p i (Some n) = if is_array n.text then unwrap_or (chunks n.id i) (own_chunk (node_at t p) n.id (t.chunk p i)) else None
+chunk_of chunks t p i (Some n) =
+    if is_array n.text then unwrap_or (chunks n.id i) (own_chunk (node_at t p) n.id (t.chunk p i))
+    else None
 
 -- the tree under the changes
 abbrev pub apply : Changes → Tree → Tree
@@ -75,17 +83,22 @@ has_id_within nodes p id = list_any (λ q. is_within p q && has_id id (get nodes
 -- another text for an added node, else for the tree's own
 abbrev pub with_meta : Changes → (path text : List ℕ) → (added there : Option Node) → Changes
 with_meta c p text (Some n) there = record c { added = insert c.added p (with_text text n) }
-with_meta c p text None (Some n) = record c { metas = λ id. if same_id8 id n.id then Some text else c.metas id }
+with_meta c p text None (Some n) =
+    record c { metas = λ id. if same_id8 id n.id then Some text else c.metas id }
 with_meta c p text None None = c
 
 -- this entry, or none, for a chunk of a node
-abbrev pub with_entry : Changes → (index : List ℕ) → Option (Option (List ℕ)) → Option Node → Changes
+abbrev pub with_entry : Changes → (index : List ℕ) → Option (Option (List ℕ))
+    → Option Node → Changes
 with_entry c i entry None = c
-with_entry c i entry (Some n) = record c { chunks = λ id j. if same_id8 id n.id && same_numbers j i then entry else c.chunks id j }
+with_entry c i entry (Some n) = record c {
+  chunks = λ id j. if same_id8 id n.id && same_numbers j i then entry else c.chunks id j;
+}
 
 -- the changes after one more edit, which isn't refused on `apply c t`
 abbrev pub extended : Changes → Tree → Edit → Changes
-extended c t (Add p id text) = record c { added = insert c.added p (record { id = id; text = text }) }
+extended c t (Add p id text) =
+    record c { added = insert c.added p (record { id = id; text = text }) }
 extended c t (SetMeta p text) = with_meta c p text (get c.added p) (node_at (apply c t) p)
 extended c t (Drop p) = record {
   dropped = λ id. c.dropped id || (has_id id (node_at (apply c t) p) && has_id id (node_at t p));
@@ -94,7 +107,8 @@ extended c t (Drop p) = record {
   chunks = λ id j. if has_id_within (nodes_under c t.nodes) p id then None else c.chunks id j;
 }
 extended c t (Set p i bytes) = with_entry c i (Some (Some bytes)) (node_at (apply c t) p)
-extended c t (Unset p i) = with_entry c i (if is_some (get c.added p) then None else Some None) (node_at (apply c t) p)
+extended c t (Unset p i) =
+    with_entry c i (if is_some (get c.added p) then None else Some None) (node_at (apply c t) p)
 
 -- one more edit, refused as the edit on the tree under the changes is
 abbrev pub extend : Changes → Tree → Edit → Result Changes EditFault
@@ -112,7 +126,8 @@ pub record StillHas (t u : Tree) (id : Id8) : Type 0 where
   pub before_id : before.id ≡ id
   pub after_id : after.id ≡ id
 
--- an entry fits an array of this id of the later tree, and is none only where the earlier tree has the array as well
+-- an entry fits an array of this id of the later tree, and is none only where the
+-- earlier tree has the array as well
 pub record EntryFits (t u : Tree) (id : Id8) (i : List ℕ) (entry : Option (List ℕ)) : Type 0 where
   pub path : List ℕ
   pub node : Node
@@ -121,24 +136,31 @@ pub record EntryFits (t u : Tree) (id : Id8) (i : List ℕ) (entry : Option (Lis
   pub fits : Fits node.text i entry
   pub unset : entry ≡ None → StillHas t u id
 
--- changes lie over a tree where what is added has metadata, and no added node takes the place of one that isn't gone
+-- changes lie over a tree where what is added has metadata, and no added node takes
+-- the place of one that isn't gone
 pub record IsOver (c : Changes) (t : Tree) : Type 0 where
   pub readable : (p : List ℕ) (n : Node) → get c.added p ≡ Some n → is_metadata n.text ≡ true
-  pub free : (p : List ℕ) (m n : Node) → get c.added p ≡ Some m → node_at t p ≡ Some n → is_gone c.dropped t.nodes p ≡ true
+  pub free : (p : List ℕ) (m n : Node) → get c.added p ≡ Some m → node_at t p ≡ Some n
+      → is_gone c.dropped t.nodes p ≡ true
 
 -- what changes are that edits have made from none
 pub record IsNormal (c : Changes) (t : Tree) : Type 0 where
   -- the added ids are distinct, and are neither the tree's nor dropped
-  pub distinct : (p q : List ℕ) (m n : Node) → get c.added p ≡ Some m → get c.added q ≡ Some n → m.id ≡ n.id → p ≡ q
-  pub fresh : (p q : List ℕ) (m n : Node) → get c.added p ≡ Some m → node_at t q ≡ Some n → m.id ≢ n.id
+  pub distinct : (p q : List ℕ) (m n : Node) → get c.added p ≡ Some m
+      → get c.added q ≡ Some n → m.id ≡ n.id → p ≡ q
+  pub fresh : (p q : List ℕ) (m n : Node) → get c.added p ≡ Some m
+      → node_at t q ≡ Some n → m.id ≢ n.id
   pub not_dropped : (p : List ℕ) (n : Node) → get c.added p ≡ Some n → c.dropped n.id ≡ false
   -- at an added path the tree's node, if there is one, is gone
-  pub free : (p : List ℕ) (m n : Node) → get c.added p ≡ Some m → node_at t p ≡ Some n → is_gone c.dropped t.nodes p ≡ true
+  pub free : (p : List ℕ) (m n : Node) → get c.added p ≡ Some m → node_at t p ≡ Some n
+      → is_gone c.dropped t.nodes p ≡ true
   -- each other text is of a node that is still there, and leaves the parts that stay
   pub metas : (id : Id8) (text : List ℕ) → c.metas id ≡ Some text → StillHas t (apply c t) id
-  pub frozen : (id : Id8) (text p : List ℕ) (n : Node) → c.metas id ≡ Some text → node_at t p ≡ Some n → n.id ≡ id → SameFrozen n.text text
+  pub frozen : (id : Id8) (text p : List ℕ) (n : Node) → c.metas id ≡ Some text
+      → node_at t p ≡ Some n → n.id ≡ id → SameFrozen n.text text
   -- each entry fits
-  pub chunks : (id : Id8) (i : List ℕ) (entry : Option (List ℕ)) → c.chunks id i ≡ Some entry → EntryFits t (apply c t) id i entry
+  pub chunks : (id : Id8) (i : List ℕ) (entry : Option (List ℕ)) → c.chunks id i ≡ Some entry
+      → EntryFits t (apply c t) id i entry
   -- and so the tree under the changes is well formed
   pub well_formed : IsWellFormed (apply c t)
 

@@ -1,5 +1,7 @@
--- Nodes, and what their metadata says. (Zarr v3 core specification, "Metadata"; which parts stay is own.)
-use Rattle.std.specs.Prelude.{◌≡◌, ℕ, ◌==◌, not, ◌||◌, nat_lt, if◌then◌else◌, Bool, true, false, List, length, Option, Some, None, is_some, IsTrue}
+-- Nodes, and what their metadata says. (Zarr v3 core specification,
+-- "Metadata"; which parts stay is own.)
+use Rattle.std.specs.Prelude.{◌≡◌, ℕ, ◌==◌, not, ◌||◌, nat_lt, if◌then◌else◌, Bool, true, false}
+use Rattle.std.specs.Prelude.{List, length, Option, Some, None, is_some, IsTrue}
 use Rattle.std.specs.List.{list_all}
 use Rattle.std.specs.Ordering.{eq_by_cmp}
 use Rattle.std.specs.Result.{result_ok}
@@ -7,8 +9,8 @@ use Rattle.std.specs.Str.{bytes_eq}
 use Rattle.ice_ids.specs.declared.Id8.{Id8}
 use Rattle.zarr_path.specs.Indices.{index_cmp}
 use Rattle.zarr_meta.specs.declared.views.ArrayView.{ArrayView}
-use Rattle.zarr_meta.specs.declared.views.View.{View}
-use Rattle.zarr_meta.specs.declared.views.View.TheVariants as view
+use Rattle.zarr_meta.specs.declared.views.MetaView.{MetaView}
+use Rattle.zarr_meta.specs.declared.views.MetaView.TheVariants as view
 use Rattle.zarr_meta.specs.Grids.{is_in_grid, chunk_bytes, most_chunks}
 use Rattle.zarr_meta.specs.Kinds.{name_of, size_of}
 use Rattle.zarr_meta.specs.Meta.{meta_of, view_in}
@@ -25,7 +27,7 @@ abbrev pub is_metadata : List ℕ → Bool
 is_metadata text = is_some (view_in text)
 
 -- "Group metadata": whether it is that of a group
-abbrev pub is_group_view : Option View → Bool
+abbrev pub is_group_view : Option MetaView → Bool
 is_group_view (Some view.Group) = true
 is_group_view (Some (view.Array array)) = false
 is_group_view None = false
@@ -34,7 +36,7 @@ abbrev pub is_group : List ℕ → Bool
 is_group text = is_group_view (result_ok (meta_of text))
 
 -- "Array metadata": what it says of an array, if it is an array's
-abbrev pub array_of_view : Option View → Option ArrayView
+abbrev pub array_of_view : Option MetaView → Option ArrayView
 array_of_view (Some (view.Array array)) = Some array
 array_of_view (Some view.Group) = None
 array_of_view None = None
@@ -67,7 +69,7 @@ array_change a b =
     (if not (same_codecs a b) then Some frozen.Codecs else
     None)))
 
-abbrev pub view_change : Option View → Option View → Option Frozen
+abbrev pub view_change : Option MetaView → Option MetaView → Option Frozen
 view_change (Some (view.Array a)) (Some (view.Array b)) = array_change a b
 view_change (Some view.Group) (Some view.Group) = None
 view_change None None = None
@@ -94,9 +96,9 @@ chunk_length array = chunk_bytes (size_of array.kind) array.chunks
 abbrev pub are_low : List ℕ → Bool
 are_low index = list_all (λ n. nat_lt n most_chunks) index
 
--- what may be held at an index of the array of this text, these bytes or none: the index has a number for each dimension,
--- and the bytes are those of a whole chunk. The index may lie outside the grid: a chunk stays where a dimension becomes
--- shorter
+-- what may be held at an index of the array of this text, these bytes or none: the index has a
+-- number for each dimension, and the bytes are those of a whole chunk. The index may lie outside
+-- the grid: a chunk stays where a dimension becomes shorter
 pub record Fits (text index : List ℕ) (bytes : Option (List ℕ)) : Type 0 where
   pub array : ArrayView
   pub found : array_in text ≡ Some array

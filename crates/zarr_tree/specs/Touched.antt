@@ -1,5 +1,7 @@
--- What changes touch of a tree. (Icechunk specification version 1, "Transaction log": the lists of ids.)
-use Rattle.std.specs.Prelude.{◌≡◌, ◌↔◌, ◌⊎◌, ℕ, ◌==◌, Bool, true, false, ◌&&◌, ◌||◌, List, [], ◌∷◌, length, map, Some, is_some}
+-- What changes touch of a tree. (Icechunk specification version 1,
+-- "Transaction log": the lists of ids.)
+use Rattle.std.specs.Prelude.{◌≡◌, ◌↔◌, ◌⊎◌, ℕ, ◌==◌, Bool, true, false, ◌&&◌}
+use Rattle.std.specs.Prelude.{◌||◌, List, [], ◌∷◌, length, map, Some, is_some}
 use Rattle.std.specs.FinMap.{get}
 use Rattle.std.specs.List.{list_any, list_all, AllByRecursion}
 use Rattle.std.specs.List.Sorted.{IsStrictlySortedBy}
@@ -20,7 +22,8 @@ abbrev pub lists_index : List (List ℕ) → List ℕ → Bool
 lists_index indices i = list_any (λ other. same_numbers other i) indices
 
 abbrev pub lists_chunk : List ArrayChunks → Id8 → List ℕ → Bool
-lists_chunk arrays id i = list_any (λ array. same_id8 array.node id && lists_index array.chunks i) arrays
+lists_chunk arrays id i =
+    list_any (λ array. same_id8 array.node id && lists_index array.chunks i) arrays
 
 abbrev pub lists_new : Touched → Id8 → Bool
 lists_new s id = lists s.new_groups id || lists s.new_arrays id
@@ -34,7 +37,9 @@ lists_updated s id = lists s.updated_arrays id || lists s.updated_groups id
 -- whether no list has an entry
 abbrev pub is_untouched : Touched → Bool
 is_untouched s =
-    list_all (λ ids. length ids == 0) (s.new_groups ∷ s.new_arrays ∷ s.deleted_groups ∷ s.deleted_arrays ∷ s.updated_arrays ∷ s.updated_groups ∷ [])
+    list_all (λ ids. length ids == 0)
+    (s.new_groups ∷ s.new_arrays ∷ s.deleted_groups ∷ s.deleted_arrays ∷ s.updated_arrays
+    ∷ s.updated_groups ∷ [])
     && length s.updated_chunks == 0
 
 -- the lists stand in strict order, arrays by the ids of their nodes
@@ -100,17 +105,24 @@ pub record Touches (c : Changes) (t : Tree) (s : Touched) : Type 0 where
   pub deleted_arrays : (id : Id8) → (lists s.deleted_arrays id ≡ true) ↔ IsDeleted c t is_array id
   pub updated_arrays : (id : Id8) → (lists s.updated_arrays id ≡ true) ↔ IsUpdated c t is_array id
   pub updated_groups : (id : Id8) → (lists s.updated_groups id ≡ true) ↔ IsUpdated c t is_group id
-  pub updated_chunks : (id : Id8) (i : List ℕ) → (lists_chunk s.updated_chunks id i ≡ true) ↔ IsUpdatedChunk c t id i
+  pub updated_chunks : (id : Id8) (i : List ℕ)
+      → (lists_chunk s.updated_chunks id i ≡ true) ↔ IsUpdatedChunk c t id i
 
 -- ---- in what two trees differ
 
--- the lists tell all in which a later tree differs. A node that stands at its path in one of the trees alone is listed as
--- new or as deleted. Of a node in both, its text is the same, or it is listed as updated or as new; and each chunk of an
--- array in both is the same, or that chunk is listed, or the array as new
+-- the lists tell all in which a later tree differs. A node that stands at its path in one of
+-- the trees alone is listed as new or as deleted. Of a node in both, its text is the same, or
+-- it is listed as updated or as new; and each chunk of an array in both is the same, or that
+-- chunk is listed, or the array as new
 pub record DiffersIn (s : Touched) (earlier later : Tree) : Type 0 where
-  pub new : (p : List ℕ) (n : Node) → node_at later p ≡ Some n → has_id n.id (node_at earlier p) ≡ false → lists_new s n.id ≡ true
-  pub deleted : (p : List ℕ) (n : Node) → node_at earlier p ≡ Some n → has_id n.id (node_at later p) ≡ false → lists_deleted s n.id ≡ true
-  pub updated : (p : List ℕ) (m n : Node) → node_at earlier p ≡ Some m → node_at later p ≡ Some n → m.id ≡ n.id
+  pub new : (p : List ℕ) (n : Node) → node_at later p ≡ Some n
+      → has_id n.id (node_at earlier p) ≡ false → lists_new s n.id ≡ true
+  pub deleted : (p : List ℕ) (n : Node) → node_at earlier p ≡ Some n
+      → has_id n.id (node_at later p) ≡ false → lists_deleted s n.id ≡ true
+  pub updated : (p : List ℕ) (m n : Node) → node_at earlier p ≡ Some m
+      → node_at later p ≡ Some n → m.id ≡ n.id
       → (n.text ≡ m.text) ⊎ ((lists_updated s n.id || lists_new s n.id) ≡ true)
-  pub chunks : (p i : List ℕ) (m n : Node) → node_at earlier p ≡ Some m → node_at later p ≡ Some n → m.id ≡ n.id → is_array n.text ≡ true
-      → (later.chunk p i ≡ earlier.chunk p i) ⊎ ((lists_chunk s.updated_chunks n.id i || lists_new s n.id) ≡ true)
+  pub chunks : (p i : List ℕ) (m n : Node) → node_at earlier p ≡ Some m → node_at later p ≡ Some n
+      → m.id ≡ n.id → is_array n.text ≡ true
+      → (later.chunk p i ≡ earlier.chunk p i)
+      ⊎ ((lists_chunk s.updated_chunks n.id i || lists_new s n.id) ≡ true)

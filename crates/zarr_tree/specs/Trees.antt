@@ -29,11 +29,12 @@ pub record HasArray (t : Tree) (p i : List ℕ) (bytes : List ℕ) : Type 0 wher
   pub found : node_at t p ≡ Some node
   pub fits : Fits node.text i (Some bytes)
 
--- each node stands at a path and has metadata, node ids are distinct, each path but `/` has a group of the tree as its
--- parent, and each chunk stands at an array that may hold it
+-- each node stands at a path and has metadata, node ids are distinct, each path but `/` has a group
+-- of the tree as its parent, and each chunk stands at an array that may hold it
 pub record IsWellFormed (t : Tree) : Type 0 where
   pub named : (p : List ℕ) (n : Node) → node_at t p ≡ Some n → is_path p ≡ true
   pub readable : (p : List ℕ) (n : Node) → node_at t p ≡ Some n → is_metadata n.text ≡ true
-  pub distinct : (p q : List ℕ) (m n : Node) → node_at t p ≡ Some m → node_at t q ≡ Some n → m.id ≡ n.id → p ≡ q
+  pub distinct : (p q : List ℕ) (m n : Node) → node_at t p ≡ Some m
+      → node_at t q ≡ Some n → m.id ≡ n.id → p ≡ q
   pub parents : (p : List ℕ) (n : Node) → node_at t p ≡ Some n → p ≢ root → HasGroup t (parent_of p)
   pub chunks : (p i : List ℕ) (bytes : List ℕ) → t.chunk p i ≡ Some bytes → HasArray t p i bytes

@@ -4,7 +4,7 @@ ghost use Rattle.std.specs.Prelude.{◌≡◌};
 ghost use Rattle.zarr_tree.specs.Nodes.{same_kind, same_codecs, same_numbers, array_change, frozen_change};
 
 use crate::edit::Frozen;
-use zarr_meta::{ArrayView, Lengths, Meta, View};
+use zarr_meta::{ArrayView, Lengths, Meta, MetaView};
 
 /// Whether two arrays have elements of one type.
 fn same_kind(a: &ArrayView, b: &ArrayView) -> bool
@@ -51,8 +51,8 @@ pub fn frozen_change(meta: &Meta, later: &Meta) -> Option<Frozen>
     ensures { result ≡ frozen_change meta.now.text later.now.text }
 {
     match (&meta.view, &later.view) {
-        (View::Array(a), View::Array(b)) => array_change(a, b),
-        (View::Group, View::Group) => None,
+        (MetaView::Array(a), MetaView::Array(b)) => array_change(a, b),
+        (MetaView::Group, MetaView::Group) => None,
         _ => Some(Frozen::NodeType),
     }
 }

@@ -1,5 +1,6 @@
 -- What a collection has still to do.
-use Rattle.std.specs.Prelude.{◌≡◌, ℕ, ◌+◌, ◌^◌, nat_lt, Bool, true, false, List, length, Result, Ok, Err}
+use Rattle.std.specs.Prelude.{◌≡◌, ℕ, ◌+◌, ◌^◌, nat_lt, Bool, true, false}
+use Rattle.std.specs.Prelude.{List, length, Result, Ok, Err}
 use Rattle.object_store.specs.declared.keys.Key.{Key}
 use Rattle.object_store.specs.declared.keys.Why.TheVariants.{Collect as For_collect}
 use Rattle.object_store.specs.declared.events.Gone.{Gone}
@@ -9,19 +10,23 @@ use Rattle.object_store.specs.declared.events.StoreFault.TheVariants.{Failed, No
 use Rattle.store_api.specs.declared.machines.Next.{Next}
 use Rattle.store_api.specs.declared.machines.Next.TheVariants.{Again, Ready}
 use Rattle.store_api.specs.declared.machines.Refusal.{Refusal}
-use Rattle.store_api.specs.declared.machines.Refusal.TheVariants.{NoMemory, StoreFault as Refused_fault}
+use Rattle.store_api.specs.declared.machines.Refusal.TheVariants.{NoMemory}
+use Rattle.store_api.specs.declared.machines.Refusal.TheVariants.{StoreFault as Refused_fault}
 use Rattle.store_api.specs.Program.{Prog, is_ask, is_fault}
 use Rattle.store_api.specs.Plays.{Play, Ended, Ask, call, dooms}
 use Rattle.cleanup_reports.specs.declared.removed.Removed.{Removed}
 use Rattle.chunk_gc.specs.declared.standing.Collected.{Collected}
 use Rattle.chunk_gc.specs.declared.standing.Collecting.{Collecting}
 use Rattle.chunk_gc.specs.declared.standing.Collecting.TheVariants as state
-use Rattle.chunk_gc.specs.Plays.{nothing, sweep, ends_with, after_gone, after_removal, after_marking, tells_failure}
+use Rattle.chunk_gc.specs.Plays.{nothing, sweep, ends_with, after_gone}
+use Rattle.chunk_gc.specs.Plays.{after_removal, after_marking, tells_failure}
 use Rattle.chunk_gc.specs.inside.Working.{many, mark_rest, mark_left}
 
 -- a removal, and then these
 abbrev pub removing_rest : Key → List Key → Removed → Play Collected
-removing_rest key keys removed = Ask (Remove key For_collect) (ends_with removed (Err NoMemory)) (after_removal key (sweep keys) removed)
+removing_rest key keys removed =
+    Ask (Remove key For_collect) (ends_with removed (Err NoMemory))
+    (after_removal key (sweep keys) removed)
 
 abbrev pub collecting_rest : Collecting → Play Collected
 collecting_rest (state.Marking mark) = call (mark_rest mark) (after_marking nothing)
@@ -45,7 +50,8 @@ is_standing (state.Removing key keys removed) = nat_lt (total removed + length k
 is_standing (state.Ended outcome) = true
 
 -- ---- behind a step of the marking
-abbrev pub settled : (Result (List Key) Refusal → Play Collected) → Prog (Result (List Key) Refusal) → Result (Next (List Key)) Refusal → Play Collected
+abbrev pub settled : (Result (List Key) Refusal → Play Collected) → Prog (Result (List Key) Refusal)
+    → Result (Next (List Key)) Refusal → Play Collected
 settled f q (Ok Again) = call q f
 settled f q (Ok (Ready keys)) = f (Ok keys)
 settled f q (Err why) = f (Err why)

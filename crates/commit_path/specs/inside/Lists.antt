@@ -21,7 +21,10 @@ IsFirst (first ∷ more) a = a ≡ first
 -- the first array that is left has this list
 abbrev pub closed_at : List NewList → List ChangedArray → Option NewManifest → ArraysState
 closed_at news [] manifest = record { news = news; left = [] }
-closed_at news (a ∷ more) manifest = record { news = news ++ record { path = a.path; manifest = manifest } ∷ []; left = more }
+closed_at news (a ∷ more) manifest = record {
+  news = news ++ record { path = a.path; manifest = manifest } ∷ [];
+  left = more;
+}
 
 abbrev pub closed : ArraysState → Option NewManifest → ArraysState
 closed a manifest = closed_at a.news a.left manifest

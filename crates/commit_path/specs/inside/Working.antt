@@ -1,5 +1,6 @@
 -- What the parts of the machine answer.
-use Rattle.std.specs.Prelude.{◌≡◌, ◌-◌, true, false, Bool, List, [], ◌∷◌, ℕ, length, Option, Result, Ok, Err}
+use Rattle.std.specs.Prelude.{◌≡◌, ◌-◌, true, false, Bool, List, [], ◌∷◌}
+use Rattle.std.specs.Prelude.{ℕ, length, Option, Result, Ok, Err}
 use Rattle.ice_ids.specs.declared.Id12.{Id12}
 use Rattle.flat_tables.specs.declared.header.Kind.{Kind}
 use Rattle.flat_tables.specs.declared.header.Kind.TheVariants as kinds
@@ -21,7 +22,8 @@ use Rattle.session.specs.Sessions.{SessionState}
 use Rattle.commit_path.specs.declared.commit.Tried.{Tried}
 use Rattle.commit_path.specs.declared.commit.Commit.{Commit}
 use Rattle.commit_path.specs.declared.committing.Committing.TheVariants.{Ended}
-use Rattle.commit_path.specs.Committing.{Answer, Written, is_long, manifest_for, new_manifest, write_array, arrays_program, after_arrays}
+use Rattle.commit_path.specs.Committing.{Answer, Written, is_long, manifest_for, new_manifest}
+use Rattle.commit_path.specs.Committing.{write_array, arrays_program, after_arrays}
 
 -- why a file isn't written
 abbrev pub IsUnwritten : Kind → WriteFault → Refusal → Type 0
@@ -36,20 +38,30 @@ WritesFile kind file (Err why) = (why ≡ TooLarge kind) × (is_long file ≡ tr
 
 -- ---- manifests
 -- a manifest's file is made, with what a list says of it
-abbrev pub MakesManifest : Id12 → (rank : ℕ) → ArrayRefs → Result (NewManifest × List ℕ) Refusal → Type 0
-MakesManifest id rank array (Ok made) = (made.0 ≡ new_manifest id rank array) × (made.1 ≡ file_bytes (manifest_for id array)) × (is_long (file_bytes (manifest_for id array)) ≡ false)
+abbrev pub MakesManifest : Id12 → (rank : ℕ) → ArrayRefs
+    → Result (NewManifest × List ℕ) Refusal → Type 0
+MakesManifest id rank array (Ok made) =
+    (made.0 ≡ new_manifest id rank array) × (made.1 ≡ file_bytes (manifest_for id array))
+    × (is_long (file_bytes (manifest_for id array)) ≡ false)
 MakesManifest id rank array (Err NoMemory) = Unit {0}
-MakesManifest id rank array (Err why) = (why ≡ TooLarge kinds.Manifest) × (is_long (file_bytes (manifest_for id array)) ≡ true)
+MakesManifest id rank array (Err why) =
+    (why ≡ TooLarge kinds.Manifest) × (is_long (file_bytes (manifest_for id array)) ≡ true)
 
 -- ---- arrays
--- what follows where the first array has these chunks, and where these manifests of it were got, which are all
-abbrev pub merged_behind : SessionState → (message : List ℕ) → Written → List ChangedArray → Option ArrayRefs → Answer
+-- what follows where the first array has these chunks, and where these
+-- manifests of it were got, which are all
+abbrev pub merged_behind : SessionState → (message : List ℕ) → Written → List ChangedArray
+    → Option ArrayRefs → Answer
 merged_behind s message w [] refs = Done (Err NoMemory)
-merged_behind s message w (a ∷ more) refs = (write_array w a refs >>= arrays_program s.rows s.held.chunks more) >>= after_arrays s message
+merged_behind s message w (a ∷ more) refs =
+    (write_array w a refs >>= arrays_program s.rows s.held.chunks more) >>= after_arrays s message
 
-abbrev pub got_behind : SessionState → (message : List ℕ) → Written → List ChangedArray → (got : List Listed) → Answer
+abbrev pub got_behind : SessionState → (message : List ℕ) → Written → List ChangedArray
+    → (got : List Listed) → Answer
 got_behind s message w [] got = after_arrays s message w
-got_behind s message w (a ∷ more) got = merged_behind s message w (a ∷ more) (merged_array a.rank a.node got (chunks_of s.held.chunks a.node))
+got_behind s message w (a ∷ more) got =
+    merged_behind s message w (a ∷ more)
+    (merged_array a.rank a.node got (chunks_of s.held.chunks a.node))
 
 -- ---- where the machine comes to
 -- the refusals of what comes before an operation
@@ -64,7 +76,8 @@ abbrev pub IsCalm : Result (Next Tried) Refusal → Type 0
 IsCalm (Ok next) = Unit {0}
 IsCalm (Err why) = is_fault why ≡ false
 
--- where a reply took the machine to which the store had answered: memory may be wanting, or nothing is free
+-- where a reply took the machine to which the store had answered: memory may
+-- be wanting, or nothing is free
 abbrev pub LandsCalmly : Answer → (rest : Answer) → Result (Next Tried) Refusal → Type 0
 LandsCalmly next rest result = Lands next rest result × IsCalm result
 
@@ -73,12 +86,13 @@ LandsSurely next rest result = Lands next rest result × IsCalm result × IsSure
 
 -- the refusal ends the program; want of memory is free
 abbrev pub EndsWith : Answer → (rest : Answer) → Refusal → Type 0
-EndsWith next rest why = IsDone rest × (is_no_memory why ≡ false → next ≡ Done (Err why)) × (is_fault why ≡ false)
+EndsWith next rest why =
+    IsDone rest × (is_no_memory why ≡ false → next ≡ Done (Err why)) × (is_fault why ≡ false)
 
 -- the machine comes to the next operation
-abbrev pub Reaches : Answer → (rest : Answer) → Result (Unit {0}) Refusal → Type 0
-Reaches next rest (Ok done) = (next ≡ rest) × IsAsk rest
-Reaches next rest (Err why) = EndsWith next rest why
+abbrev pub ComesToNext : Answer → (rest : Answer) → Result (Unit {0}) Refusal → Type 0
+ComesToNext next rest (Ok done) = (next ≡ rest) × IsAsk rest
+ComesToNext next rest (Err why) = EndsWith next rest why
 
 -- the machine comes to the next operation, or it goes on without one
 abbrev pub Turns : Answer → (behind rest : Answer) → Result Bool Refusal → Type 0

@@ -1,4 +1,5 @@
--- Codes of what the code keeps of both sides, by which proofs tell such values apart; no public contract cites this.
+-- Codes of what the code keeps of both sides, by which proofs tell such values apart;
+-- no public contract cites this.
 use Rattle.std.specs.Prelude.{ℕ, List, refl}
 use Rattle.std.specs.Coded.{Coded, coded×, coded_list, code_by}
 use Rattle.std.specs.FinMap.{FinMap, code}
@@ -20,16 +21,34 @@ abbrev pub coded_ids : Coded Ids
 coded_ids = coded_list coded_id
 
 abbrev pub coded_array : Coded ArrayChunks
-coded_array = code_by (Id8 × List (List ℕ)) (coded× coded_id (coded_list coded_path)) (λ a. (a.node, a.chunks)) (λ p. record { node = p.0; chunks = p.1 }) (λ _. refl)
+coded_array =
+    code_by (Id8 × List (List ℕ)) (coded× coded_id (coded_list coded_path))
+    (λ a. (a.node, a.chunks)) (λ p. record { node = p.0; chunks = p.1 }) (λ _. refl)
 
 abbrev pub Lists : Type 0
 Lists = (Ids × Ids) × ((Ids × Ids) × ((Ids × Ids) × List ArrayChunks))
 
 abbrev pub coded_touched : Coded Touched
 coded_touched = code_by Lists
-    (coded× (coded× coded_ids coded_ids) (coded× (coded× coded_ids coded_ids) (coded× (coded× coded_ids coded_ids) (coded_list coded_array))))
-    (λ s. ((s.new_groups, s.new_arrays), ((s.deleted_groups, s.deleted_arrays), ((s.updated_arrays, s.updated_groups), s.updated_chunks))))
-    (λ p. record { new_groups = p.0.0; new_arrays = p.0.1; deleted_groups = p.1.0.0; deleted_arrays = p.1.0.1; updated_arrays = p.1.1.0.0; updated_groups = p.1.1.0.1; updated_chunks = p.1.1.1 })
+    (coded× (coded× coded_ids coded_ids)
+    (coded× (coded× coded_ids coded_ids)
+    (coded× (coded× coded_ids coded_ids) (coded_list coded_array))))
+    (λ s. (
+      (s.new_groups, s.new_arrays),
+      (
+        (s.deleted_groups, s.deleted_arrays),
+        ((s.updated_arrays, s.updated_groups), s.updated_chunks),
+      ),
+    ))
+    (λ p. record {
+      new_groups = p.0.0;
+      new_arrays = p.0.1;
+      deleted_groups = p.1.0.0;
+      deleted_arrays = p.1.0.1;
+      updated_arrays = p.1.1.0.0;
+      updated_groups = p.1.1.0.1;
+      updated_chunks = p.1.1.1;
+    })
     (λ _. refl)
 
 abbrev pub Nodes : Type 0

@@ -9,7 +9,8 @@ use Rattle.object_store.specs.declared.events.StoreFault.TheVariants.{Failed, No
 use Rattle.store_api.specs.declared.machines.Next.{Next}
 use Rattle.store_api.specs.declared.machines.Next.TheVariants.{Again, Ready}
 use Rattle.store_api.specs.declared.machines.Refusal.{Refusal}
-use Rattle.store_api.specs.declared.machines.Refusal.TheVariants.{NoMemory, StoreFault as Refused_fault}
+use Rattle.store_api.specs.declared.machines.Refusal.TheVariants.{NoMemory}
+use Rattle.store_api.specs.declared.machines.Refusal.TheVariants.{StoreFault as Refused_fault}
 use Rattle.store_api.specs.Program.{Prog, is_ask, is_fault}
 use Rattle.store_api.specs.Plays.{Play, Ended, Or, call, dooms}
 use Rattle.cleanup_reports.specs.declared.cases.What.{What}
@@ -23,7 +24,8 @@ use Rattle.expiry.specs.declared.register.Phase.TheVariants.{Branches, Tags}
 use Rattle.expiry.specs.declared.standing.Expired.{Expired}
 use Rattle.expiry.specs.declared.standing.Expiring.{Expiring}
 use Rattle.expiry.specs.declared.standing.Expiring.TheVariants as state
-use Rattle.expiry.specs.Plays.{tells_failure, ends_with, decide, after_look, after_case, expire_each, listing, all_done, expire_tags}
+use Rattle.expiry.specs.Plays.{tells_failure, ends_with, decide, after_look}
+use Rattle.expiry.specs.Plays.{after_case, expire_each, listing, all_done, expire_tags}
 use Rattle.expiry.specs.inside.Looking.{look_rest, look_left, look_most, is_ref}
 use Rattle.expiry.specs.inside.Registers.{Refs, part_of, many}
 
@@ -39,16 +41,22 @@ refs_rest t refs = expire_each t refs.keys refs.cases (behind_all t refs.phase)
 
 -- behind a ref that was taken
 abbrev pub case_rest : Terms → Key → Refs → Result What Refusal → Play Expired
-case_rest t key refs = after_case key refs.cases (λ more. expire_each t refs.keys more (behind_all t refs.phase))
+case_rest t key refs =
+    after_case key refs.cases (λ more. expire_each t refs.keys more (behind_all t refs.phase))
 
 abbrev pub listing_rest : Terms → Refs → Play Expired
-listing_rest t refs = listing (part_of refs.phase) refs.cases (λ keys. expire_each t keys refs.cases (behind_all t refs.phase))
+listing_rest t refs =
+    listing (part_of refs.phase) refs.cases
+    (λ keys. expire_each t keys refs.cases (behind_all t refs.phase))
 
 abbrev pub expiring_rest : Terms → Expiring → Play Expired
 expiring_rest t (state.Listing refs) = listing_rest t refs
-expiring_rest t (state.Looking look refs) = call (look_rest look) (after_look look.key (case_rest t look.key refs))
-expiring_rest t (state.Dropping key version refs) = decide key (case_rest t key refs) (Drops version)
-expiring_rest t (state.Cutting cut refs) = decide cut.key (case_rest t cut.key refs) (Cuts cut.id cut.version cut.bytes)
+expiring_rest t (state.Looking look refs) =
+    call (look_rest look) (after_look look.key (case_rest t look.key refs))
+expiring_rest t (state.Dropping key version refs) =
+    decide key (case_rest t key refs) (Drops version)
+expiring_rest t (state.Cutting cut refs) =
+    decide cut.key (case_rest t cut.key refs) (Cuts cut.id cut.version cut.bytes)
 expiring_rest t (state.Ended outcome) = Ended outcome
 
 -- how many steps are left at most
@@ -84,7 +92,8 @@ is_standing (state.Cutting cut refs) = true
 is_standing (state.Ended outcome) = true
 
 -- ---- behind a step of a look
-abbrev pub settled : (Result Decision Refusal → Play Expired) → Prog (Result Decision Refusal) → Result (Next Decision) Refusal → Play Expired
+abbrev pub settled : (Result Decision Refusal → Play Expired) → Prog (Result Decision Refusal)
+    → Result (Next Decision) Refusal → Play Expired
 settled f q (Ok Again) = call q f
 settled f q (Ok (Ready decision)) = f (Ok decision)
 settled f q (Err why) = f (Err why)
@@ -109,7 +118,8 @@ fault_told Failed = Refused_fault
 fault_told No_room = NoMemory
 
 -- what its answer tells
-abbrev pub heard : {A : Type 0} → (Reply → Result A Refusal) → Result Reply StoreFault → Result A Refusal
+abbrev pub heard : {A : Type 0} → (Reply → Result A Refusal) → Result Reply StoreFault
+    → Result A Refusal
 heard told (Ok reply) = told reply
 heard told (Err fault) = Err (fault_told fault)
 
@@ -119,5 +129,7 @@ listed_told _ = Err Refused_fault
 
 -- ... and of a listing
 abbrev pub listed_rest : Terms → Refs → Result Listed Refusal → Play Expired
-listed_rest t refs (Ok listed) = Or (expire_each t (live listed.entries) refs.cases (behind_all t refs.phase)) (ends_with refs.cases (Err NoMemory))
+listed_rest t refs (Ok listed) =
+    Or (expire_each t (live listed.entries) refs.cases (behind_all t refs.phase))
+    (ends_with refs.cases (Err NoMemory))
 listed_rest t refs (Err why) = ends_with refs.cases (Err why)

@@ -1,7 +1,8 @@
 -- What a look at a ref has still to do.
 use Rattle.std.specs.Prelude.{◌≡◌, ℕ, ◌+◌, Bool, true, false, Some, Result, Ok, Err}
 use Rattle.object_store.specs.declared.keys.Key.{Key}
-use Rattle.object_store.specs.declared.keys.Key.TheVariants.{Snapshot, Manifest, Txn, Chunk, Branch, Tag, Tombstone, Lease}
+use Rattle.object_store.specs.declared.keys.Key.TheVariants.{Snapshot, Manifest, Txn, Chunk}
+use Rattle.object_store.specs.declared.keys.Key.TheVariants.{Branch, Tag, Tombstone, Lease}
 use Rattle.object_store.specs.declared.events.Version.{Version}
 use Rattle.object_store.specs.declared.events.Op.TheVariants.{Get}
 use Rattle.object_store.specs.declared.events.Got.TheVariants.{Found}
@@ -30,7 +31,8 @@ version_in _ = record { 0 = 0 }
 
 -- ---- what is left to do
 abbrev pub head_rest : Terms → Key → Resolved → Program Decision
-head_rest t key named = asks (Get (Snapshot named.id)) (snapshot_seen named.id) (look_head t key named.version)
+head_rest t key named =
+    asks (Get (Snapshot named.id)) (snapshot_seen named.id) (look_head t key named.version)
 
 abbrev pub below_rest : Terms → Walk → Program Decision
 below_rest t walk = look_below walk.left t.cutoff walk.last (Some walk.next)

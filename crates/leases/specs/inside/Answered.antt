@@ -6,9 +6,10 @@ use Rattle.object_store.specs.declared.events.StoreFault.{StoreFault}
 use Rattle.object_store.specs.declared.events.StoreFault.TheVariants.{Failed, NoMemory}
 use Rattle.store_api.specs.Plays.{Play, Comes, dooms}
 
--- a player has come to q behind an operation that was answered so: to what follows its reply, whether a failed one was done or not, or to what
--- follows want of memory
-abbrev pub Follows : {A B : Type 0} → (A → Reply) → (starved : Play B) → (next : Reply → Play B) → Result A StoreFault → Play B → Type 0
+-- a player has come to q behind an operation that was answered so: to what follows its reply,
+-- whether a failed one was done or not, or to what follows want of memory
+abbrev pub Follows : {A B : Type 0} → (A → Reply) → (starved : Play B) → (next : Reply → Play B)
+    → Result A StoreFault → Play B → Type 0
 Follows reply starved next (Ok a) q = Comes (next (reply a)) q
 Follows reply starved next (Err Failed) q = (done : Bool) → Comes (next (Reply_failed done)) q
 Follows reply starved next (Err NoMemory) q = Comes starved q

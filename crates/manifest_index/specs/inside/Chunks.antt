@@ -1,5 +1,6 @@
 -- The chunks that are collected, by their indices.
-use Rattle.std.specs.Prelude.{◌≡◌, ◌<◌, ◌^◌, ℕ, ◌==◌, if◌then◌else◌, List, length, map, Option, None}
+use Rattle.std.specs.Prelude.{◌≡◌, ◌<◌, ◌^◌, ℕ, ◌==◌, if◌then◌else◌}
+use Rattle.std.specs.Prelude.{List, length, map, Option, None}
 use Rattle.std.specs.BTreeMap.{BTreeMap, get, IsOrdered}
 use Rattle.zarr_path.specs.Indices.{index_cmp}
 use Rattle.manifest_file.specs.declared.manifest.Place.{Place}

@@ -1,5 +1,6 @@
 -- What a mirror has still to do, by where it stands.
-use Rattle.std.specs.Prelude.{◌≡◌, ◌⊎◌, ℕ, ◌+◌, ◌-◌, ◌*◌, Bool, List, [], ◌∷◌, length, Result, Ok, Err}
+use Rattle.std.specs.Prelude.{◌≡◌, ◌⊎◌, ℕ, ◌+◌, ◌-◌, ◌*◌, Bool}
+use Rattle.std.specs.Prelude.{List, [], ◌∷◌, length, Result, Ok, Err}
 use Rattle.ice_ids.specs.declared.Id12.{Id12}
 use Rattle.snapshot_file.specs.declared.snapshot.SnapshotFile.{SnapshotFile}
 use Rattle.repo_objects.specs.declared.bad_objects.Bad.{Bad}
@@ -24,12 +25,23 @@ use Rattle.mirror.specs.declared.mirror.Object.TheVariants as object
 use Rattle.mirror.specs.declared.mirror.Stage.{Stage}
 use Rattle.mirror.specs.declared.mirror.Stage.TheVariants as stage
 use Rattle.mirror_reports.specs.Told.{file_under}
-use Rattle.mirror.specs.Programs.{Work, Answer, ends, refused, on_told, asks, fits_there, unless_differs, take_object, put_object, put_behind, compare, copy_chunks, copy_manifests, copy_log, put_snapshot, with_manifest, with_snapshot, with_copied, copy_line, down, down_behind, point, copy_ref, make_ref, move_ref, see_tag, copy_refs, copy_part, copy_tags, finish}
+use Rattle.mirror.specs.Programs.{Work, Answer, ends, refused, on_told, asks, fits_there}
+use Rattle.mirror.specs.Programs.{unless_differs, take_object, put_object, put_behind}
+use Rattle.mirror.specs.Programs.{compare, copy_chunks, copy_manifests, copy_log, put_snapshot}
+use Rattle.mirror.specs.Programs.{with_manifest, with_snapshot, with_copied, copy_line}
+use Rattle.mirror.specs.Programs.{down, down_behind, point, copy_ref, make_ref, move_ref}
+use Rattle.mirror.specs.Programs.{see_tag, copy_refs, copy_part, copy_tags, finish}
 use Rattle.mirror.specs.inside.Registers.{part_of, many}
 
 -- ---- what it holds
 abbrev pub work_of : Mirror → Work
-work_of m = record { snapshots = m.copied; manifests = m.files.all; chunks = m.chunks.all; counts = m.counts; refs = m.register.refs }
+work_of m = record {
+  snapshots = m.copied;
+  manifests = m.files.all;
+  chunks = m.chunks.all;
+  counts = m.counts;
+  refs = m.register.refs;
+}
 
 abbrev pub object_key : Object → Mirror → Key
 object_key (object.Chunk id) m = Chunk id
@@ -77,7 +89,8 @@ abbrev pub behind_manifest : Mirror → Work → Answer
 behind_manifest m w = copy_manifests m.files.todo w (behind_files m)
 
 abbrev pub behind_chunk : Mirror → Work → Answer
-behind_chunk m w = copy_chunks m.chunks.todo w (λ v. put_object (Manifest m.file) m.manifest v (behind_manifest m))
+behind_chunk m w =
+    copy_chunks m.chunks.todo w (λ v. put_object (Manifest m.file) m.manifest v (behind_manifest m))
 
 -- behind an object that stands in the target
 abbrev pub behind_object : Object → Mirror → Work → Answer
@@ -92,27 +105,42 @@ behind_put o m w = put_behind (object_key o m) (object_bytes o m) w (behind_obje
 
 -- behind what stands in the target under its key
 abbrev pub behind_same : Object → Mirror → Work → (there : List ℕ) → Answer
-behind_same o m w there = on_told w (unless_differs (object_key o m) w (behind_object o m)) (fits_there (object_key o m) (object_bytes o m) there)
+behind_same o m w there =
+    on_told w (unless_differs (object_key o m) w (behind_object o m))
+    (fits_there (object_key o m) (object_bytes o m) there)
 
 -- behind the bytes of an object of the source
 abbrev pub taken : Object → Mirror → Work → List ℕ → Answer
 taken (object.Chunk id) m w bytes = put_object (Chunk id) bytes w (behind_chunk m)
-taken (object.Manifest id) m w bytes = on_told w (with_manifest id bytes w (behind_manifest m)) (at_key (Manifest id) (read_manifest id bytes))
-taken object.Log m w bytes = on_told w (λ log. put_object (Txn m.link.id) bytes w (behind_log m)) (at_key (Txn m.link.id) (read_log m.link.id bytes))
-taken object.Snapshot m w bytes = on_told w (with_snapshot m.link bytes w (behind_snapshot m)) (at_key (Snapshot m.link.id) (read_snapshot m.link.id bytes))
+taken (object.Manifest id) m w bytes =
+    on_told w (with_manifest id bytes w (behind_manifest m))
+    (at_key (Manifest id) (read_manifest id bytes))
+taken object.Log m w bytes =
+    on_told w (λ log. put_object (Txn m.link.id) bytes w (behind_log m))
+    (at_key (Txn m.link.id) (read_log m.link.id bytes))
+taken object.Snapshot m w bytes =
+    on_told w (with_snapshot m.link bytes w (behind_snapshot m))
+    (at_key (Snapshot m.link.id) (read_snapshot m.link.id bytes))
 
 -- what is still to be done at a stage
 abbrev pub stage_rest : Stage → Mirror → Work → Answer
 stage_rest stage.List m w = copy_part (part_of m.register.phase) w (behind_refs m.register.phase)
-stage_rest stage.Ref m w = on_first m.register.names w (λ r next. copy_ref r w next) m.register.phase
-stage_rest (stage.Down id) m w = asks w From (Get (Snapshot id)) (snapshot_told id) (down_behind (λ more parent. down m.left more w (behind_line m) parent) m.line w (behind_line m) id)
+stage_rest stage.Ref m w =
+    on_first m.register.names w (λ r next. copy_ref r w next) m.register.phase
+stage_rest (stage.Down id) m w =
+    asks w From (Get (Snapshot id)) (snapshot_told id)
+    (down_behind (λ more parent. down m.left more w (behind_line m) parent)
+    m.line w (behind_line m) id)
 stage_rest (stage.Take o) m w = take_object (object_key o m) w (taken o m w)
 stage_rest (stage.Put o) m w = put_object (object_key o m) (object_bytes o m) w (behind_object o m)
 stage_rest (stage.Same o) m w = compare (object_key o m) (object_bytes o m) w (behind_object o m)
 stage_rest stage.Target m w = behind_line m w
-stage_rest (stage.Tombstone there) m w = on_first m.register.names w (λ r next. see_tag r m.target w next there) m.register.phase
-stage_rest stage.NewRef m w = on_first m.register.names w (λ r next. make_ref r m.target w next) m.register.phase
-stage_rest (stage.OverRef old) m w = on_first m.register.names w (λ r next. move_ref r m.target w next old) m.register.phase
+stage_rest (stage.Tombstone there) m w =
+    on_first m.register.names w (λ r next. see_tag r m.target w next there) m.register.phase
+stage_rest stage.NewRef m w =
+    on_first m.register.names w (λ r next. make_ref r m.target w next) m.register.phase
+stage_rest (stage.OverRef old) m w =
+    on_first m.register.names w (λ r next. move_ref r m.target w next old) m.register.phase
 stage_rest stage.Ended m w = Done (ends w m.result)
 stage_rest stage.Starved m w = refused w NoMemory
 
@@ -139,7 +167,10 @@ Entered (Err bad) P = ⊥
 
 -- why a snapshot that was got again is refused
 abbrev pub Refuses : Link → List ℕ → Refusal → Type 0
-Refuses link bytes reason = (at_key (Snapshot link.id) (read_snapshot link.id bytes) ≡ Err reason) ⊎ ((s : SnapshotFile) × (read_snapshot link.id bytes ≡ Ok s) × (file_under link.parent bytes s ≡ Err reason))
+Refuses link bytes reason =
+    (at_key (Snapshot link.id) (read_snapshot link.id bytes) ≡ Err reason)
+    ⊎ ((s : SnapshotFile) × (read_snapshot link.id bytes ≡ Ok s)
+    × (file_under link.parent bytes s ≡ Err reason))
 
 -- ---- how many steps are left at most
 -- of one manifest, of one snapshot, and of one ref

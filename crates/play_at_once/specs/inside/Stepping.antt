@@ -1,4 +1,5 @@
--- What the steps of one worker do, as the contracts of the code's own functions say it; no public contract cites this.
+-- What the steps of one worker do, as the contracts of the code's own functions say it;
+-- no public contract cites this.
 use Rattle.std.specs.Prelude.{◌≡◌, ℕ, ◌+◌, ◌≤◌, ◌++◌, true, List, IsTrue, All}
 use Rattle.ice_base.specs.Ends.{Rose}
 use Rattle.ice_ids.specs.declared.drawing.Draw.{Draw}
@@ -33,12 +34,15 @@ abbrev pub Blames : Play Outcome → ℕ → ℕ → Type 0
 Blames p m n = dooms is_failed p ≡ true → Rose m n
 
 -- the event is good, and where its client is one of these, that client's task owes it
-pub record IsKnown (draw : Draw) (tasks : List Task) (start : List Event) (clients : ℕ → Type 0) (journal : List Event) (event : Event) : Type 0 where
+pub record IsKnown (draw : Draw) (tasks : List Task) (start : List Event) (clients : ℕ → Type 0)
+    (journal : List Event) (event : Event) : Type 0 where
   pub good : IsGood journal event
   pub mine : clients event.client → IsOfClient draw tasks start journal event
 
--- The journal went on, so that each event is known. The events of the client of the worker at this place are these.
-pub record Tells (draw : Draw) (tasks : List Task) (start : List Event) (clients : ℕ → Type 0) (place : ℕ) (events old new : List Event) : Type 0 where
+-- The journal went on, so that each event is known. The events of the client of the
+-- worker at this place are these.
+pub record Tells (draw : Draw) (tasks : List Task) (start : List Event) (clients : ℕ → Type 0)
+    (place : ℕ) (events old new : List Event) : Type 0 where
   pub more : List Event
   pub is : new ≡ old ++ more
   pub known : Each (IsKnown draw tasks start clients) old more
@@ -54,6 +58,9 @@ pub record Went (place : ℕ) (old new : View) (p q : Play Outcome) : Type 0 whe
   pub blames : (m : ℕ) → m ≤ old.faults → Blames p m old.faults → Blames q m new.faults
   pub events : List Event
   pub mine : All (IsAt place) events
-  pub plays : (more : List Event) (outcome : Outcome) → PlaysTo q more outcome → PlaysTo p (events ++ more) outcome
-  pub kept : (draw : Draw) (tasks : List Task) (start : List Event) → IsTrue old.caller.tells → Stands draw tasks start old.caller.tells place p old.seen
-      → Stands draw tasks start old.caller.tells place q new.seen × Tells draw tasks start (λ n. owns old.caller n ≡ true) place events old.seen new.seen
+  pub plays : (more : List Event) (outcome : Outcome) → PlaysTo q more outcome
+      → PlaysTo p (events ++ more) outcome
+  pub kept : (draw : Draw) (tasks : List Task) (start : List Event) → IsTrue old.caller.tells
+      → Stands draw tasks start old.caller.tells place p old.seen
+      → Stands draw tasks start old.caller.tells place q new.seen
+      × Tells draw tasks start (λ n. owns old.caller n ≡ true) place events old.seen new.seen

@@ -5,7 +5,10 @@ use Rattle.store_api.specs.Program.{is_ask}
 use Rattle.store_api.specs.Running.{Program}
 use Rattle.store_api.specs.Plays.{Play, Ended, call}
 use Rattle.refs_admin.specs.declared.log.LogLine.{LogLine}
-use Rattle.refs_admin.specs.inside.Working.{branch_new_rest, branch_new_left, branch_reset_rest, branch_reset_left, branch_drop_rest, branch_drop_left, tag_new_rest, tag_new_left, tag_drop_rest, tag_drop_left, log_rest, log_left}
+use Rattle.refs_admin.specs.inside.Working.{branch_new_rest, branch_new_left, branch_reset_rest}
+use Rattle.refs_admin.specs.inside.Working.{branch_reset_left, branch_drop_rest}
+use Rattle.refs_admin.specs.inside.Working.{branch_drop_left, tag_new_rest, tag_new_left}
+use Rattle.refs_admin.specs.inside.Working.{tag_drop_rest, tag_drop_left, log_rest, log_left}
 use Rattle.script_calls.specs.declared.calls.RefCall.{RefCall}
 use Rattle.play_script.specs.declared.scripts.Line.{Line}
 use Rattle.play_outcome.specs.declared.outcome.Shown.{Shown}
@@ -36,7 +39,8 @@ maker_left (m.Tag machine) = tag_new_left machine
 maker_left (m.Untag machine) = tag_drop_left machine
 
 -- what is left of a call in this line of the script, and then what follows what it comes to
-abbrev pub machine_play : ℕ → RefMachine → (Result (List Shown) Refusal → Play Outcome) → Play Outcome
+abbrev pub machine_play : ℕ → RefMachine → (Result (List Shown) Refusal → Play Outcome)
+    → Play Outcome
 machine_play line (Making maker) next = call (maker_rest maker) (λ answer. next (unseen answer))
 machine_play line (Reading log) next = call (log_rest log) (λ answer. next (logged line answer))
 
@@ -56,7 +60,8 @@ most_steps = 65538
 
 -- the machine is that of this call, before its first operation
 pub record Begins (c : RefCall) (machine : RefMachine) : Type 0 where
-  pub plays : (line : ℕ) (next : Result (List Shown) Refusal → Play Outcome) → ref_play line c next ≡ machine_play line machine next
+  pub plays : (line : ℕ) (next : Result (List Shown) Refusal → Play Outcome)
+      → ref_play line c next ≡ machine_play line machine next
   pub works : machine_works machine ≡ true
   pub few : machine_left machine ≤ most_steps
 
@@ -73,7 +78,8 @@ abbrev pub after_reading : ℕ → List Shown → Rest → Result (List LogLine)
 after_reading line shown rest answer = after_ref line shown rest (logged line answer)
 
 abbrev pub working_rest : List Line → Working → Play Outcome
-working_rest body (w.Calling line at shown machine) = machine_play line machine (after_ref line shown.items (lines_from body at))
+working_rest body (w.Calling line at shown machine) =
+    machine_play line machine (after_ref line shown.items (lines_from body at))
 working_rest body (w.Ended outcome) = Ended outcome
 
 -- the lines that were shown so far
@@ -93,5 +99,6 @@ is_well (w.Ended outcome) = not (ends_failed outcome)
 
 -- how many steps are left at most, of a body of so many lines
 abbrev pub working_left : ℕ → Working → ℕ
-working_left lines (w.Calling line at shown machine) = (lines - at) * most_steps + machine_left machine
+working_left lines (w.Calling line at shown machine) =
+    (lines - at) * most_steps + machine_left machine
 working_left lines (w.Ended outcome) = 0

@@ -1,4 +1,5 @@
--- What turns do, as the contracts of the code's own functions say it; no public contract cites this.
+-- What turns do, as the contracts of the code's own functions say it;
+-- no public contract cites this.
 use Rattle.std.specs.Prelude.{◌≡◌, ℕ, ◌≤◌, ◌++◌, List, IsTrue, Some, length, slice_get, true}
 use Rattle.ice_base.specs.Ends.{Rose}
 use Rattle.ice_ids.specs.declared.drawing.Draw.{Draw}
@@ -24,10 +25,14 @@ CanGo view ps = IsTrue view.caller.tells → IsReady view ps
 
 -- a play that is bound to tell a fault of the store is only there where the faults rose
 abbrev pub Blame : List (Play Outcome) → ℕ → ℕ → Type 0
-Blame ps m n = (place : ℕ) (p : Play Outcome) → slice_get ps place ≡ Some p → dooms is_failed p ≡ true → Rose m n
+Blame ps m n =
+    (place : ℕ) (p : Play Outcome) → slice_get ps place ≡ Some p
+    → dooms is_failed p ≡ true → Rose m n
 
--- where the plays were tasks' that stood: they stand still, and the journal went on by these operations, good and owed
-pub record Kept (draw : Draw) (tasks : List Task) (start : List Event) (old new : View) (own : List Event) (qs : List (Play Outcome)) : Type 0 where
+-- where the plays were tasks' that stood: they stand still, and the journal went on by
+-- these operations, good and owed
+pub record Kept (draw : Draw) (tasks : List Task) (start : List Event) (old new : View)
+    (own : List Event) (qs : List (Play Outcome)) : Type 0 where
   pub stand : AllStand draw tasks start new.caller.tells qs new.seen
   pub is : new.seen ≡ old.seen ++ own
   pub careful : Each (IsOfClient draw tasks start) old.seen own
@@ -41,4 +46,6 @@ pub record Went (turns : List ℕ) (old new : View) (ps qs : List (Play Outcome)
   pub others : (place : ℕ) → HasEndedAt place ps → HasEndedAt place qs
   pub own : List Event
   pub order : InTurns turns ps own qs
-  pub kept : (draw : Draw) (tasks : List Task) (start : List Event) → IsTrue old.caller.tells → AllStand draw tasks start old.caller.tells ps old.seen → Kept draw tasks start old new own qs
+  pub kept : (draw : Draw) (tasks : List Task) (start : List Event)
+      → IsTrue old.caller.tells → AllStand draw tasks start old.caller.tells ps old.seen
+      → Kept draw tasks start old new own qs

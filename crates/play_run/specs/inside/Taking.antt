@@ -1,5 +1,7 @@
--- What one turn does, as the contracts of the code's own functions say it; no public contract cites this.
-use Rattle.std.specs.Prelude.{◌≡◌, ℕ, ◌+◌, Bool, true, false, List, Option, Some, None, slice_get, slice_set}
+-- What one turn does, as the contracts of the code's own functions say it;
+-- no public contract cites this.
+use Rattle.std.specs.Prelude.{◌≡◌, ℕ, ◌+◌, Bool, true, false, List}
+use Rattle.std.specs.Prelude.{Option, Some, None, slice_get, slice_set}
 use Rattle.store_api.specs.Callers.{View, HasAll, as_client}
 use Rattle.store_api.specs.Plays.{Play, IsLive, HasEnded, Acts}
 use Rattle.play_outcome.specs.declared.outcome.Outcome.{Outcome}

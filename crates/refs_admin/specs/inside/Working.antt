@@ -2,7 +2,8 @@
 use Rattle.std.specs.Prelude.{ℕ, zero, suc, ◌+◌, List, [], ◌∷◌, ◌++◌, Option, Some, None, Ok, Err}
 use Rattle.ice_ids.specs.declared.Id12.{Id12}
 use Rattle.store_api.specs.declared.machines.Refusal.{Refusal}
-use Rattle.store_api.specs.declared.machines.Refusal.TheVariants.{NoSnapshot, BadFile, TooDeep, StoreFault, NoMemory}
+use Rattle.store_api.specs.declared.machines.Refusal.TheVariants.{NoSnapshot, BadFile, TooDeep}
+use Rattle.store_api.specs.declared.machines.Refusal.TheVariants.{StoreFault, NoMemory}
 use Rattle.store_api.specs.Program.{Done}
 use Rattle.store_api.specs.Running.{Program, ◌>>=◌}
 use Rattle.repo_read.specs.Chains.{most_snapshots}
@@ -25,11 +26,13 @@ use Rattle.refs_admin.specs.declared.log.Logging.{Logging}
 use Rattle.refs_admin.specs.declared.log.LogLine.{LogLine}
 use Rattle.refs_admin.specs.declared.log.Walk.{Walk}
 use Rattle.refs_admin.specs.declared.log.Log.{Log}
-use Rattle.refs_admin.specs.Branches.{create_program, put_branch, reset_program, move_program, put_over, branch_drop_program, removal}
-use Rattle.refs_admin.specs.Tags.{tag_target_program, put_tag, taken_program, tag_drop_program, put_tombstone}
-use Rattle.refs_admin.specs.Beginning.{init_program, put_main}
+use Rattle.refs_admin.specs.Branches.{create_program, put_branch, reset_program}
+use Rattle.refs_admin.specs.Branches.{move_program, put_over, branch_drop_program, removal}
+use Rattle.refs_admin.specs.Tags.{tag_target_program, put_tag, taken_program}
+use Rattle.refs_admin.specs.Tags.{tag_drop_program, put_tombstone}
+use Rattle.refs_admin.specs.NewRepository.{init_program, put_main}
 use Rattle.repo_read.specs.Resolving.{no_ref}
-use Rattle.refs_admin.specs.Logs.{line_of, refused_first}
+use Rattle.refs_admin.specs.LogReading.{line_of, refused_first}
 use Rattle.repo_read.specs.Seeking.{resolving_rest, resolving_left}
 
 -- the refusals of the get of a snapshot that a ref is to name
@@ -42,7 +45,8 @@ MayRefuseTarget _ = ⊥
 
 -- ---- a new branch
 abbrev pub creating_rest : (name : List ℕ) → Creating → Program (Unit {0})
-creating_rest name (Creating.Resolving resolving) = resolving_rest resolving >>= λ named. create_program name named.id
+creating_rest name (Creating.Resolving resolving) =
+    resolving_rest resolving >>= λ named. create_program name named.id
 creating_rest name (Creating.Target id) = create_program name id
 creating_rest name (Creating.Branch id) = put_branch name id
 creating_rest name Creating.Ended = Done (Err NoMemory)
@@ -61,7 +65,8 @@ branch_new_left m = creating_left m.state
 
 -- ---- a branch that is set to another snapshot
 abbrev pub moving_rest : (name : List ℕ) → Moving → Program (Unit {0})
-moving_rest name (Moving.Resolving resolving) = resolving_rest resolving >>= λ named. reset_program name named.id
+moving_rest name (Moving.Resolving resolving) =
+    resolving_rest resolving >>= λ named. reset_program name named.id
 moving_rest name (Moving.Branch id) = reset_program name id
 moving_rest name (Moving.Target id version) = move_program name id version
 moving_rest name (Moving.Over id version) = put_over name id version
@@ -99,7 +104,8 @@ branch_drop_left m = dropping_left m.state
 
 -- ---- a new tag
 abbrev pub tagging_rest : (name : List ℕ) → Tagging → Program (Unit {0})
-tagging_rest name (Tagging.Resolving resolving) = resolving_rest resolving >>= λ named. tag_target_program name named.id
+tagging_rest name (Tagging.Resolving resolving) =
+    resolving_rest resolving >>= λ named. tag_target_program name named.id
 tagging_rest name (Tagging.Target id) = tag_target_program name id
 tagging_rest name (Tagging.Tag id) = put_tag name id
 tagging_rest name (Tagging.Tombstone version) = taken_program name version
@@ -153,7 +159,8 @@ abbrev pub init_left : Init → ℕ
 init_left m = init_step_left m.state
 
 -- ---- a log
--- The lines of the snapshots from this one along the parents, behind those that were read; no more than so many more are read.
+-- The lines of the snapshots from this one along the parents, behind those that were read; no
+-- more than so many more are read.
 unfoldable pub log_walk : (left : ℕ) → (lines : List LogLine) → Id12 → Program (List LogLine)
 log_walk zero lines id = Done (Err TooDeep)
 log_walk (suc left) lines id = snapshot_program id >>= λ s. elim s.parent [
@@ -162,7 +169,8 @@ log_walk (suc left) lines id = snapshot_program id >>= λ s. elim s.parent [
 ]
 
 -- ... behind a snapshot with this parent
-abbrev pub walk_behind : (left : ℕ) → (lines : List LogLine) → (parent : Option Id12) → Program (List LogLine)
+abbrev pub walk_behind : (left : ℕ) → (lines : List LogLine) → (parent : Option Id12)
+    → Program (List LogLine)
 walk_behind left lines None = Done (Ok lines)
 walk_behind left lines (Some parent) = log_walk left lines parent
 
@@ -171,7 +179,8 @@ abbrev pub walk_rest : Walk → Program (List LogLine)
 walk_rest walk = log_walk walk.left walk.lines walk.next
 
 abbrev pub logging_rest : Logging → Program (List LogLine)
-logging_rest (Logging.Resolving resolving) = resolving_rest resolving >>= λ named. log_walk most_snapshots [] named.id
+logging_rest (Logging.Resolving resolving) =
+    resolving_rest resolving >>= λ named. log_walk most_snapshots [] named.id
 logging_rest (Logging.Head walk) = refused_first no_ref (walk_rest walk)
 logging_rest (Logging.Chain walk) = walk_rest walk
 logging_rest Logging.Ended = Done (Err NoMemory)

@@ -14,10 +14,13 @@ pub record AreTold (files objects : List Id12) (faults : List CheckFault) : Type
   pub objects_are : (id : Id12) → has_object objects id ≡ has_fault faults (Chunk id)
 
 -- One more fault of this object: whether it is told, and the sets with it.
-pub record NotesOne (key : Key) (kind : FaultKind) (faults : List CheckFault) (new : Bool) (files objects : List Id12) : Type 0 where
+pub record NotesOne (key : Key) (kind : FaultKind) (faults : List CheckFault) (new : Bool)
+    (files objects : List Id12) : Type 0 where
   pub is : with_fault key kind faults ≡ (if new then and_fault key kind faults else faults)
   pub told : AreTold files objects (with_fault key kind faults)
 
-abbrev pub Notes : Key → (files objects : List Id12) → Bool → (more_files more_objects : List Id12) → Type 0
+abbrev pub Notes : Key → (files objects : List Id12) → Bool
+    → (more_files more_objects : List Id12) → Type 0
 Notes key files objects new more_files more_objects =
-    (kind : FaultKind) (faults : List CheckFault) → AreTold files objects faults → NotesOne key kind faults new more_files more_objects
+    (kind : FaultKind) (faults : List CheckFault) → AreTold files objects faults
+    → NotesOne key kind faults new more_files more_objects

@@ -1,5 +1,7 @@
 -- What a check has still to do, where it stands.
-use Rattle.std.specs.Prelude.{◌≡◌, ◌<◌, ◌≤◌, ℕ, ◌+◌, ◌*◌, ◌^◌, not, Bool, true, false, if◌then◌else◌, List, [], ◌∷◌, length, Option, Some, None, Result, Ok, Err}
+use Rattle.std.specs.Prelude.{◌≡◌, ◌<◌, ◌≤◌, ℕ, ◌+◌, ◌*◌, ◌^◌, not}
+use Rattle.std.specs.Prelude.{Bool, true, false, if◌then◌else◌, List, [], ◌∷◌}
+use Rattle.std.specs.Prelude.{length, Option, Some, None, Result, Ok, Err}
 use Rattle.ice_ids.specs.declared.Id12.{Id12}
 use Rattle.ice_ids.specs.Sets.{has_object}
 use Rattle.object_store.specs.declared.keys.Key.{Key}
@@ -24,7 +26,10 @@ use Rattle.repo_check.specs.declared.standing.Checking.{Checking}
 use Rattle.repo_check.specs.declared.standing.Checking.TheVariants as state
 use Rattle.repo_check.specs.declared.course.Course.{Course}
 use Rattle.repo_check.specs.Works.{Work, has_file, has_part}
-use Rattle.repo_check.specs.Plays.{Answer, ends_with, starved, asks, on_got, on_listed, roots_with, told_ref, told_part, told_log, get_refs, get_parts, get_files, after_file, after_snapshot, onward, walk, walks, then_tags, refused_by_fault, tells_failure}
+use Rattle.repo_check.specs.Plays.{Answer, ends_with, starved, asks, on_got, on_listed}
+use Rattle.repo_check.specs.Plays.{roots_with, told_ref, told_part, told_log, get_refs}
+use Rattle.repo_check.specs.Plays.{get_parts, get_files, after_file, after_snapshot, onward}
+use Rattle.repo_check.specs.Plays.{walk, walks, then_tags, refused_by_fault, tells_failure}
 
 -- ---- what is taken
 -- the first of a list is taken
@@ -50,11 +55,14 @@ abbrev pub TakesRoot : (met : List Id12) → List Id12 → Option Id12 → List 
 TakesRoot met old None new = (new_roots met old ≡ []) × (new ≡ [])
 TakesRoot met old (Some id) new = (new_roots met old ≡ id ∷ new) × (length new < length old)
 
-abbrev pub TakesNewFile : (met : List FileVisit) → SnapshotLeft → Option FileVisit → SnapshotLeft → Type 0
+abbrev pub TakesNewFile : (met : List FileVisit) → SnapshotLeft → Option FileVisit
+    → SnapshotLeft → Type 0
 TakesNewFile met old None new = (new_files met old.files ≡ []) × (new.parent ≡ old.parent)
-TakesNewFile met old (Some f) new = (new_files met old.files ≡ f ∷ new.files) × (new.parent ≡ old.parent) × (new.steps < old.steps)
+TakesNewFile met old (Some f) new =
+    (new_files met old.files ≡ f ∷ new.files) × (new.parent ≡ old.parent) × (new.steps < old.steps)
 
-abbrev pub TakesNewPart : (met : List PartVisit) → List PartVisit → Option PartVisit → List PartVisit → Type 0
+abbrev pub TakesNewPart : (met : List PartVisit) → List PartVisit → Option PartVisit
+    → List PartVisit → Type 0
 TakesNewPart met old None new = new_parts met old ≡ []
 TakesNewPart met old (Some p) new = (new_parts met old ≡ p ∷ new) × (length new < length old)
 
@@ -65,7 +73,8 @@ parent_rest left roots parent w = onward (walk left (walks roots)) parent w (wal
 abbrev pub files_rest : (left : ℕ) → (roots : List Id12) → SnapshotLeft → Work → Answer
 files_rest left roots place w = get_files place.files w (parent_rest left roots place.parent)
 
-abbrev pub parts_rest : (left : ℕ) → (roots : List Id12) → List PartVisit → SnapshotLeft → Work → Answer
+abbrev pub parts_rest : (left : ℕ) → (roots : List Id12) → List PartVisit
+    → SnapshotLeft → Work → Answer
 parts_rest left roots parts place w = get_parts parts w (files_rest left roots place)
 
 -- the operation that comes next
@@ -82,14 +91,26 @@ checking_op (state.Ended result) = ListPart Branches
 
 -- ... and what follows its reply
 abbrev pub heard_in : Checking → Course → Reply → Answer
-heard_in state.Branches c reply = on_listed c.work (λ keys. get_refs keys c.roots c.work then_tags) reply
-heard_in (state.Branch key) c reply = on_got c.work (λ got. get_refs c.names (roots_with c.roots (found_ref got)) (told_ref key (found_ref got) c.work) then_tags) reply
+heard_in state.Branches c reply =
+    on_listed c.work (λ keys. get_refs keys c.roots c.work then_tags) reply
+heard_in (state.Branch key) c reply =
+    on_got c.work (λ got. get_refs c.names (roots_with c.roots (found_ref got))
+    (told_ref key (found_ref got) c.work) then_tags) reply
 heard_in state.Tags c reply = on_listed c.work (λ keys. get_refs keys c.roots c.work walks) reply
-heard_in (state.Tag key) c reply = on_got c.work (λ got. get_refs c.names (roots_with c.roots (found_ref got)) (told_ref key (found_ref got) c.work) walks) reply
-heard_in (state.Snapshot id) c reply = on_got c.work (λ got. after_snapshot (walk c.left (walks c.roots)) id c.work (walks c.roots) (found_snapshot id got)) reply
-heard_in (state.Log id place) c reply = on_got c.work (λ got. files_rest c.left c.roots place (told_log id (found_log id got) c.work)) reply
-heard_in (state.File f place) c reply = on_got c.work (λ got. after_file f c.work (files_rest c.left c.roots place) (found_manifest f got)) reply
-heard_in (state.Part p parts place) c reply = on_got c.work (λ got. parts_rest c.left c.roots parts place (told_part p (found_part p got) c.work)) reply
+heard_in (state.Tag key) c reply =
+    on_got c.work (λ got. get_refs c.names (roots_with c.roots (found_ref got))
+    (told_ref key (found_ref got) c.work) walks) reply
+heard_in (state.Snapshot id) c reply =
+    on_got c.work (λ got. after_snapshot (walk c.left (walks c.roots)) id c.work (walks c.roots)
+    (found_snapshot id got)) reply
+heard_in (state.Log id place) c reply =
+    on_got c.work
+    (λ got. files_rest c.left c.roots place (told_log id (found_log id got) c.work)) reply
+heard_in (state.File f place) c reply =
+    on_got c.work
+    (λ got. after_file f c.work (files_rest c.left c.roots place) (found_manifest f got)) reply
+heard_in (state.Part p parts place) c reply = on_got c.work
+    (λ got. parts_rest c.left c.roots parts place (told_part p (found_part p got) c.work)) reply
 heard_in (state.Ended result) c reply = ends_with c.work result
 
 abbrev pub checking_rest : Checking → Course → Answer
@@ -97,10 +118,13 @@ checking_rest state.Branches c = asks (ListPart Branches) c.work (heard_in state
 checking_rest (state.Branch key) c = asks (Get key) c.work (heard_in (state.Branch key) c)
 checking_rest state.Tags c = asks (ListPart Tags) c.work (heard_in state.Tags c)
 checking_rest (state.Tag key) c = asks (Get key) c.work (heard_in (state.Tag key) c)
-checking_rest (state.Snapshot id) c = asks (Get (Snapshot id)) c.work (heard_in (state.Snapshot id) c)
+checking_rest (state.Snapshot id) c =
+    asks (Get (Snapshot id)) c.work (heard_in (state.Snapshot id) c)
 checking_rest (state.Log id place) c = asks (Get (Txn id)) c.work (heard_in (state.Log id place) c)
-checking_rest (state.File f place) c = asks (Get (Manifest f.manifest)) c.work (heard_in (state.File f place) c)
-checking_rest (state.Part p parts place) c = asks (Get (Chunk p.object)) c.work (heard_in (state.Part p parts place) c)
+checking_rest (state.File f place) c =
+    asks (Get (Manifest f.manifest)) c.work (heard_in (state.File f place) c)
+checking_rest (state.Part p parts place) c =
+    asks (Get (Chunk p.object)) c.work (heard_in (state.Part p parts place) c)
 checking_rest (state.Ended result) c = ends_with c.work result
 
 abbrev pub is_live : Checking → Bool

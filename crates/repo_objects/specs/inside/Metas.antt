@@ -22,7 +22,8 @@ AreMetas rows metas = map (λ meta. meta.text) metas ≡ map (λ row. row.user_d
 -- the metadata of a row, or the fault of row number `at`
 abbrev pub LoadsMeta : (at : ℕ) → NodeRow → Result Meta Unread → Type 0
 LoadsMeta at row (Ok meta) = (row_fault row ≡ None) × (meta.text ≡ row.user_data)
-LoadsMeta at row (Err (unread.Bad bad)) = (fault : MetaFault) × (row_fault row ≡ Some fault) × (bad ≡ Node at fault)
+LoadsMeta at row (Err (unread.Bad bad)) =
+    (fault : MetaFault) × (row_fault row ≡ Some fault) × (bad ≡ Node at fault)
 LoadsMeta at row (Err unread.NoMemory) = ⊤
 
 -- the metadata of rows, or the first row's fault

@@ -27,7 +27,8 @@ reading_left m = steps_unless m.ended
 
 -- ---- a walk
 -- the walk from the next snapshot on, unless the machine has ended
-abbrev pub walk_rest : (left : ℕ) → (seen : List SnapshotFile) → (next : Option Id12) → Program (List SnapshotFile)
+abbrev pub walk_rest : (left : ℕ) → (seen : List SnapshotFile) → (next : Option Id12)
+    → Program (List SnapshotFile)
 walk_rest left seen None = Done (Err NoMemory)
 walk_rest left seen (Some id) = walk left seen id
 
@@ -42,6 +43,7 @@ abbrev pub chain_left : Chain → ℕ
 chain_left m = walk_left m.left m.next
 
 -- the walk behind a snapshot with this parent
-abbrev pub walk_behind : (left : ℕ) → (seen : List SnapshotFile) → (parent : Option Id12) → Program (List SnapshotFile)
+abbrev pub walk_behind : (left : ℕ) → (seen : List SnapshotFile) → (parent : Option Id12)
+    → Program (List SnapshotFile)
 walk_behind left seen None = Done (Ok seen)
 walk_behind left seen (Some parent) = walk left seen parent

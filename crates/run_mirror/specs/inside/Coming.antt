@@ -1,4 +1,5 @@
--- How far a mirror has come, as the contracts of the code's own functions say it; no public contract cites this.
+-- How far a mirror has come, as the contracts of the code's own functions say it;
+-- no public contract cites this.
 use Rattle.std.specs.Prelude.{◌≡◌, ◌≤◌, true, IsTrue, List}
 use Rattle.ice_base.specs.Ends.{Rose}
 use Rattle.store_api.specs.Callers.{Caller, View}
@@ -16,11 +17,15 @@ use Rattle.run_mirror.specs.Running.{GoesAlone}
 pub record Came (old now : Both View) (rest : Answer) : Type 0 where
   pub callers : callers_of now ≡ callers_of old
   pub keeps : KeepsPair (PoliteOn (callers_of old)) (callers_of old) rest (seen_of now)
-  pub leads : LeadsPair (MirrorTells (callers_of old) (seen_of old)) (callers_of old) rest (seen_of now)
-  pub trees : BothTell (callers_of old) → LeadsPair (RefsSame (callers_of old) (seen_of old)) (callers_of old) rest (seen_of now)
-  pub alone : (side : Side) → IsTrue (at_side side old).caller.tells → GoesAlone (at_side side old).caller.number (at_side side old).seen (at_side side now).seen
+  pub leads : LeadsPair (MirrorTells (callers_of old) (seen_of old))
+      (callers_of old) rest (seen_of now)
+  pub trees : BothTell (callers_of old)
+      → LeadsPair (RefsSame (callers_of old) (seen_of old)) (callers_of old) rest (seen_of now)
+  pub alone : (side : Side) → IsTrue (at_side side old).caller.tells
+      → GoesAlone (at_side side old).caller.number (at_side side old).seen (at_side side now).seen
   pub fair : IsFair tells_fault rest
-  pub blames : (side : Side) → dooms tells_fault side rest ≡ true → Rose (at_side side old).faults (at_side side now).faults
+  pub blames : (side : Side) → dooms tells_fault side rest ≡ true
+      → Rose (at_side side old).faults (at_side side now).faults
   pub counted : (side : Side) → (at_side side old).faults ≤ (at_side side now).faults
 
 abbrev pub HasCome : (old now : Both View) → Mirror → Type 0

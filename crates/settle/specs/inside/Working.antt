@@ -19,7 +19,8 @@ abbrev pub way_rest : Doubt → Way → Program Settled
 way_rest d way = settle_walk d way.head way.left way.next
 
 -- ... behind a snapshot with this parent
-abbrev pub way_behind : Doubt → (head : Id12) → (left : ℕ) → (parent : Option Id12) → Program Settled
+abbrev pub way_behind : Doubt → (head : Id12) → (left : ℕ) → (parent : Option Id12)
+    → Program Settled
 way_behind d head left (Some parent) = unless_met (met d parent) (settle_walk d head left parent)
 way_behind d head left None = Done (Ok (NotAncestor head))
 

@@ -1,9 +1,11 @@
 -- Why edits are refused, by the node at their path; no public contract cites this.
-use Rattle.std.specs.Prelude.{ℕ, not, ◌&&◌, ◌==◌, nat_le, List, if◌then◌else◌, Option, Some, None, is_some, option_map, Result, Ok, Err}
+use Rattle.std.specs.Prelude.{ℕ, not, ◌&&◌, ◌==◌, nat_le, List, if◌then◌else◌}
+use Rattle.std.specs.Prelude.{Option, Some, None, is_some, option_map, Result, Ok, Err}
 use Rattle.std.specs.FinMap.{FinMap, get, len}
 use Rattle.zarr_path.specs.Paths.{path_cmp, same_path, root, parent_of}
 use Rattle.zarr_tree.specs.declared.edit.EditFault.{EditFault}
-use Rattle.zarr_tree.specs.declared.edit.EditFault.TheVariants.{NodeExists, NoParent, Full, FrozenField, ChunkLength}
+use Rattle.zarr_tree.specs.declared.edit.EditFault.TheVariants.{NodeExists, NoParent, Full}
+use Rattle.zarr_tree.specs.declared.edit.EditFault.TheVariants.{FrozenField, ChunkLength}
 use Rattle.zarr_tree.specs.Nodes.{Node, frozen_change}
 use Rattle.zarr_tree.specs.Edits.{is_group_at, at_node, most_nodes}
 use Rattle.tree_model.specs.inside.Lengths.{length_at}

@@ -11,7 +11,8 @@ use Rattle.zarr_changes.specs.inside.Kept.{ChunkRows}
 -- the entries with those of chunks at these places, one after another
 abbrev pub rows_placed : ChunkRows → List Placed → ChunkRows
 rows_placed rows [] = rows
-rows_placed rows (first ∷ more) = rows_placed (insert_entry index_cmp rows first.index (Some first.place)) more
+rows_placed rows (first ∷ more) =
+    rows_placed (insert_entry index_cmp rows first.index (Some first.place)) more
 
 -- what there was for a chunk, if there was an entry
 abbrev pub put_back : (index : List ℕ) → Option (Option Place) → ChunkRows → ChunkRows

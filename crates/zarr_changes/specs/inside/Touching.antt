@@ -6,7 +6,8 @@ use Rattle.zarr_path.specs.Paths.{path_cmp}
 use Rattle.zarr_tree.specs.Nodes.{Node, is_metadata, is_group, is_array}
 use Rattle.zarr_tree.specs.Changes.{is_gone, has_id}
 use Rattle.zarr_tree.specs.Touched.{lists}
-use Rattle.zarr_tree.specs.Held.{Held, Entry, Rows, meta_in, nodes_over, ids_of, indices_of, indices_in_order}
+use Rattle.zarr_tree.specs.Held.{Held, HeldEntry, Rows, meta_in, nodes_over}
+use Rattle.zarr_tree.specs.Held.{ids_of, indices_of, indices_in_order}
 use Rattle.ice_ids.specs.declared.Id8.{Id8}
 use Rattle.zarr_tree.specs.declared.lists.ArrayChunks.{ArrayChunks}
 use Rattle.zarr_changes.specs.declared.net.Kinds.{Kinds}
@@ -42,16 +43,20 @@ has_metadata rows = list_any (λ row. is_metadata row.1.text) rows
 
 -- whether a node of a tree stays with another text
 abbrev pub is_updated : {P : Type 0} → Held P → FinMap path_cmp Node → List ℕ × Node → Bool
-is_updated h nodes row = has_id row.1.id (get (nodes_over h nodes) row.0) && is_some (meta_in h.metas row.1.id)
+is_updated h nodes row =
+    has_id row.1.id (get (nodes_over h nodes) row.0) && is_some (meta_in h.metas row.1.id)
 
 -- whether a node of a tree is gone or stays with another text
 abbrev pub touches_own : {P : Type 0} → Held P → FinMap path_cmp Node → Bool
-touches_own h nodes = list_any (λ row. is_metadata row.1.text && (is_gone (lists h.dropped) nodes row.0 || is_updated h nodes row)) (entries nodes)
+touches_own h nodes =
+    list_any (λ row. is_metadata row.1.text
+    && (is_gone (lists h.dropped) nodes row.0 || is_updated h nodes row)) (entries nodes)
 
 -- the rows of nodes that have entries
-abbrev pub with_entries : {P : Type 0} → List (Entry P) → Rows → Rows
+abbrev pub with_entries : {P : Type 0} → List (HeldEntry P) → Rows → Rows
 with_entries entries rows = filter (λ row. has_chunks entries row.1.id) rows
 
 -- arrays, and the indices of their entries
-abbrev pub chunk_lists : {P : Type 0} → List (Entry P) → List Id8 → List ArrayChunks
-chunk_lists entries ids = map (λ id. record { node = id; chunks = indices_in_order (indices_of entries id) }) ids
+abbrev pub chunk_lists : {P : Type 0} → List (HeldEntry P) → List Id8 → List ArrayChunks
+chunk_lists entries ids =
+    map (λ id. record { node = id; chunks = indices_in_order (indices_of entries id) }) ids

@@ -13,8 +13,10 @@ Names o (Err BadKey) = o ≡ None
 Names o (Err NoMemory) = Unit {0}
 Names o (Err _) = ⊥
 
--- the metadata was put; or this was refused, and the session is as before, but for one id that may have been drawn where there was no memory
-abbrev pub Puts : (expected : Result SessionState Refusal) → SessionState → Result (Unit {0}) Refusal → SessionState → Type 0
+-- the metadata was put; or this was refused, and the session is as before, but for one id that may
+-- have been drawn where there was no memory
+abbrev pub Puts : (expected : Result SessionState Refusal) → SessionState
+    → Result (Unit {0}) Refusal → SessionState → Type 0
 Puts expected old (Ok done) new = expected ≡ Ok new
 Puts expected old (Err NoMemory) new = SameOrDrawn12 old new
 Puts expected old (Err refusal) new = (expected ≡ Err refusal) × (new ≡ old)

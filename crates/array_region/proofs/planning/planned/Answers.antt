@@ -1,6 +1,6 @@
 use Rattle.std.proofs.Common.{ap}
 use Rattle.session.specs.Arrays.{array_told}
-use Rattle.array_region.proofs.Planned.{told_refused, count_refused, passes, planned_program, told_unwritten, count_unwritten, planned_write}
+use Rattle.array_region.proofs.Planned.{told_refused, count_refused, passes, planned_program, told_unwritten, count_unwritten, planned_write, array_outright, count_outright, fine_outright}
 use Rattle.array_region.proofs.planning.planned.Goals as goal
 
 pub invariant_of-result : goal.invariant_of-result
@@ -43,3 +43,21 @@ returns-clause-writes c =
     λ numbers w.
     planned_write c.args.session.now r.path r.from.items r.to.items (array_told c.find_array.result) c.find_array.ensures numbers w c.in-Ok.found.node c.in-Ok.found.array.now (ap array_told c.in-Ok.is) c.counted.result c.counted.ensures
     c.in-Ok-counted.count c.in-Ok-counted.is c.in-Ok-copy.array c.in-Ok-copy.ensures
+
+pub returns-in-Err-clause-outright : goal.returns-in-Err-clause-outright
+returns-in-Err-clause-outright c = let r = c.args.region in array_outright _ c.args.session.now r.path r.from.items r.to.items (array_told c.find_array.result) c.find_array.ensures c.in-Err.why (ap array_told c.in-Err.is)
+
+pub returns-in-Err-counted-clause-outright : goal.returns-in-Err-counted-clause-outright
+returns-in-Err-counted-clause-outright c =
+    let r = c.args.region in
+    count_outright _ c.args.session.now r.path r.from.items r.to.items (array_told c.find_array.result) c.find_array.ensures c.in-Ok.found.node c.in-Ok.found.array.now (ap array_told c.in-Ok.is) c.counted.result c.counted.ensures c.in-Err-counted.why c.in-Err-counted.is
+
+pub returns-in_default-clause-outright : goal.returns-in_default-clause-outright
+returns-in_default-clause-outright c =
+    let r = c.args.region in
+    fine_outright _ c.args.session.now r.path r.from.items r.to.items (array_told c.find_array.result) c.find_array.ensures c.in-Ok.found.node c.in-Ok.found.array.now (ap array_told c.in-Ok.is) c.counted.result c.counted.ensures c.in-Ok-counted.count c.in-Ok-counted.is
+
+pub returns-clause-outright : goal.returns-clause-outright
+returns-clause-outright c =
+    let r = c.args.region in
+    fine_outright _ c.args.session.now r.path r.from.items r.to.items (array_told c.find_array.result) c.find_array.ensures c.in-Ok.found.node c.in-Ok.found.array.now (ap array_told c.in-Ok.is) c.counted.result c.counted.ensures c.in-Ok-counted.count c.in-Ok-counted.is

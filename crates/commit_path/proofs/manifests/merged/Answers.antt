@@ -9,4 +9,4 @@ use Rattle.commit_path.proofs.manifests.merged.Goals as goal
 pub merge-requires : goal.merge-requires
 merge-requires c =
     AllPass-from_list_all (λ (x : List ℕ × Option Place). are_low x.0) _
-    (subst (λ (xs : List (List ℕ × Option Place)). list_all (λ (x : List ℕ × Option Place). are_low x.0) xs ≡ true) (c.deref.ensures.value ∙ sym c.deref-3.ensures.value) (sym c.all_low.ensures ∙ c.if-not-all_low.false))
+    (subst (λ (xs : List (List ℕ × Option Place)). list_all (λ (x : List ℕ × Option Place). are_low x.0) xs ≡ true) c.deref.ensures.value (sym c.all_low.ensures ∙ c.if-not-all_low.false))

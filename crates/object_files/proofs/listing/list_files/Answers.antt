@@ -4,7 +4,7 @@ use Rattle.std.proofs.lemmas.Option.{MatchOption-at_some, MatchOption-at_none}
 use Rattle.folder.specs.Files.{TellsNames, HoldsNone}
 use Rattle.object_store.specs.declared.events.Entry.{Entry}
 use Rattle.object_files.specs.Contents.{ListsAll, object_at}
-use Rattle.object_files.specs.inside.Finding.{folder_name}
+use Rattle.object_files.specs.Paths.{folder_name}
 use Rattle.object_files.proofs.Listed.{listed-as, nothing_listed}
 use Rattle.object_files.proofs.Found.{lists-all, nothing-lies, told-name, none-lies}
 use Rattle.object_files.proofs.listing.list_files.Goals as goal

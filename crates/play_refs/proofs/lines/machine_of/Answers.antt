@@ -1,4 +1,4 @@
-use Rattle.play_refs.proofs.Beginning.{new-made, reset-made, tag-made, log-made}
+use Rattle.play_refs.proofs.NewMachines.{new-made, reset-made, tag-made, log-made}
 use Rattle.play_refs.proofs.lines.machine_of.Goals as goal
 
 pub returns-in_ok-copy-in-Branch-2 : goal.returns-in_ok-copy-in-Branch-2

@@ -1,10 +1,11 @@
-use Rattle.std.proofs.Common.{ℕ, List, ◌∙◌, ap, subst}
-use Rattle.std.specs.Prelude.{replicate}
-use Rattle.play_tasks.specs.Lines.{Sets}
-use Rattle.play_tasks.specs.inside.Working.{LineComes}
+use Rattle.session.specs.Chunks.{set_program, filled}
+use Rattle.play_tasks.proofs.Calm.{set-calm}
 use Rattle.play_tasks.proofs.chunks.play_fill.Goals as goal
 
 pub returns-clause-comes : goal.returns-clause-comes
-returns-clause-comes c = λ access.
-    let is = c.deref.ensures.value ∙ c.in-Ok.ensures ∙ ap (λ (n : ℕ). replicate n c.args.byte) c.chunk_len-len.ensures in
-    subst (λ (bytes : List ℕ). LineComes access c.args.line c.args.at c.args.shown.items c.args.session (Sets c.args.path.now c.args.index.now bytes) c.play_set.result) is (c.play_set.ensures.comes access)
+returns-clause-comes c = λ access. c.after_call.ensures.comes c.args.session (set_program c.args.session c.args.path.now c.args.index.now (filled c.args.session c.args.path.now c.args.byte)) c.fill_chunk.ensures
+
+pub returns-clause-clean : goal.returns-clause-clean
+returns-clause-clean c =
+    let bytes = filled c.args.session c.args.path.now c.args.byte in
+    c.after_call.ensures.clean c.args.session (set_program c.args.session c.args.path.now c.args.index.now bytes) c.fill_chunk.ensures (set-calm c.args.session c.args.path.now c.args.index.now bytes)

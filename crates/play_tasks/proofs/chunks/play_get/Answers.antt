@@ -1,7 +1,7 @@
 use Rattle.std.proofs.Common.{inl, subst, Ok}
 use Rattle.session.specs.Chunks.{get_program}
 use Rattle.session.specs.declared.getting.Getting.{Getting}
-use Rattle.session.specs.Getting.{get_rest, get_session, Gets}
+use Rattle.session.specs.Getting.{get_rest, get_session, GetBegun}
 use Rattle.play_tasks.specs.inside.Working.{lines_from}
 use Rattle.play_tasks.proofs.Calm.{get-calm}
 use Rattle.play_tasks.proofs.Locals.{well_refused}
@@ -13,7 +13,7 @@ returns-in-Ok-Again-clause-comes c = λ access task.
     let s = c.args.session in
     let get = c.in-Ok-Again.get in
     let p = get_program s c.args.path.now c.args.index.now in
-    let is = subst (λ (x : Getting). Gets p s (Ok x)) c.in-Ok-Again.field-0-is c.in-Ok-Again.ensures.read in
+    let is = subst (λ (x : Getting). GetBegun p s (Ok x)) c.in-Ok-Again.field-0-is c.in-Ok-Again.ensures.read in
     inl (get-began c.args.line c.args.shown.items p (get_rest get) s (get_session get) (lines_from task c.args.at) is.0 is.1 is.2)
 
 pub returns-in-Err-clause-clean : goal.returns-in-Err-clause-clean

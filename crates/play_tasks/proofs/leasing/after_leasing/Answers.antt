@@ -1,10 +1,7 @@
-use Rattle.std.proofs.Common.{◌∙◌, ◌++◌, List, sym, ap, subst}
-use Rattle.std.specs.Prelude.{Ok, Err, vec_len, vec_capacity}
-use Rattle.store_api.specs.Plays.{Play, Comes, dooms}
-use Rattle.leases.specs.declared.lease.Leased.{Leased}
-use Rattle.leases.specs.Plays.{tells_fault}
+use Rattle.std.proofs.Common.{◌∙◌, sym, ap}
+use Rattle.std.specs.Prelude.{vec_len, vec_capacity}
+use Rattle.store_api.specs.Plays.{Play, dooms}
 use Rattle.leases.specs.Resting.{lease_rest}
-use Rattle.leases.specs.Following.{followed}
 use Rattle.leases.proofs.Following.{followed-self}
 use Rattle.play_outcome.specs.declared.outcome.Outcome.{Outcome}
 use Rattle.play_outcome.specs.Ending.{ends_failed}

@@ -1,4 +1,4 @@
-use Rattle.std.proofs.Common.{inl, sym, ap, subst, arith}
+use Rattle.std.proofs.Common.{inl, sym, subst, arith}
 use Rattle.std.specs.Prelude.{vec_len, vec_capacity}
 use Rattle.store_api.specs.declared.machines.Refusal.TheVariants.{NoMemory}
 use Rattle.store_api.specs.Plays.{Or, Comes}

@@ -4,7 +4,7 @@ use Rattle.store_api.specs.declared.machines.Refusal.{Refusal}
 use Rattle.session.specs.Editing.{group_fault, array_fault, node_fault, group_added}
 use Rattle.script_calls.specs.declared.calls.EditCall.{EditCall}
 use Rattle.script_calls.specs.declared.calls.EditCall.TheVariants.{Group}
-use Rattle.play_tasks.specs.Lines.{edited}
+use Rattle.play_tasks.specs.Lines.{edits_to}
 use Rattle.play_tasks.specs.inside.Working.{is_local, Edits}
 use Rattle.play_tasks.proofs.Locals.{added-local, set-local, drop-local, unset-local, adds-edits}
 use Rattle.play_tasks.proofs.Keys.{erase-local}
@@ -12,8 +12,8 @@ use Rattle.play_tasks.proofs.lines.edit_session.Goals as goal
 
 pub returns-in-Group-clause-edits : goal.returns-in-Group-clause-edits
 returns-in-Group-clause-edits c =
-    subst (λ (x : EditCall). Edits (edited x c.args.session.now) c.without_id.result c.add_group.new.self) (sym c.in-Group.is)
-    (subst (λ (r : Result (Unit {0}) Refusal). Edits (edited (Group c.in-Group.path) c.args.session.now) r c.add_group.new.self) (sym c.without_id.ensures)
+    subst (λ (x : EditCall). Edits (edits_to x c.args.session.now) c.without_id.result c.add_group.new.self) (sym c.in-Group.is)
+    (subst (λ (r : Result (Unit {0}) Refusal). Edits (edits_to (Group c.in-Group.path) c.args.session.now) r c.add_group.new.self) (sym c.without_id.ensures)
     (adds-edits (group_added c.args.session.now c.in-Group.path group_text) c.args.session.now c.add_group.new.self c.add_group.result c.add_group.ensures))
 
 pub returns-in-Group-clause-local : goal.returns-in-Group-clause-local

@@ -3,19 +3,19 @@ use Rattle.session.specs.Sessions.{SessionState}
 use Rattle.script_calls.specs.declared.calls.CellBox.{CellBox}
 use Rattle.script_calls.specs.declared.calls.EditCall.{EditCall}
 use Rattle.script_calls.specs.declared.calls.EditCall.TheVariants.{Group, Array, Make, Meta, Drop, Set, Fill, Unset, Put, KeySet, KeyErase}
-use Rattle.play_tasks.specs.Lines.{Deed, Goes, edit_deed, edited, silent}
+use Rattle.play_tasks.specs.Lines.{LineDeed, Goes, edit_deed, edits_to, silent}
 use Rattle.play_tasks.specs.inside.Working.{LineComes, CallComes}
 use Rattle.play_tasks.proofs.lines.play_edit.Goals as goal
 
 -- the edit is one that needs no operation
-goes : (x y : EditCall) (s : SessionState) → x ≡ y → edit_deed y s ≡ Goes (silent (edited y s)) → edit_deed x s ≡ Goes (silent (edited x s))
-goes x y s e d = subst (λ (z : EditCall). edit_deed z s ≡ Goes (silent (edited z s))) (sym e) d
+goes : (x y : EditCall) (s : SessionState) → x ≡ y → edit_deed y s ≡ Goes (silent (edits_to y s)) → edit_deed x s ≡ Goes (silent (edits_to x s))
+goes x y s e d = subst (λ (z : EditCall). edit_deed z s ≡ Goes (silent (edits_to z s))) (sym e) d
 
 pub returns-in-Group-clause-comes : goal.returns-in-Group-clause-comes
 returns-in-Group-clause-comes c =
     let x = c.args.edit.now in
     let s = c.args.session in
-    let is : edit_deed x s ≡ Goes (silent (edited x s)) = elim c.in-Group.is [
+    let is : edit_deed x s ≡ Goes (silent (edits_to x s)) = elim c.in-Group.is [
       | inl w ↦ goes x (Group w.0) s w.1 refl
       | inr r ↦ elim r [
         | inl w ↦ goes x (Array w.0 w.1) s w.2 refl
@@ -34,7 +34,7 @@ returns-in-Group-clause-comes c =
         ]
       ]
     ] in
-    subst (λ (d : Deed). CallComes c.args.line c.args.at c.args.shown.items s d c.play_change.result) (sym is) (c.play_change.ensures.comes c.args.at)
+    subst (λ (d : LineDeed). CallComes c.args.line c.args.at c.args.shown.items s d c.play_change.result) (sym is) (c.play_change.ensures.comes c.args.at)
 
 pub returns-in-Group-clause-bounded : goal.returns-in-Group-clause-bounded
 returns-in-Group-clause-bounded c = c.play_change.ensures.bounded c.args.at

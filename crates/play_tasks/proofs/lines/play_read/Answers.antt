@@ -3,7 +3,7 @@ use Rattle.session.specs.Sessions.{SessionState}
 use Rattle.script_calls.specs.declared.calls.CellBox.{CellBox}
 use Rattle.script_calls.specs.declared.calls.ReadCall.{ReadCall}
 use Rattle.script_calls.specs.declared.calls.ReadCall.TheVariants.{List as List_call, Get, Chunk, Cells}
-use Rattle.play_tasks.specs.Lines.{Deed, Goes, read_deed, read_by, still}
+use Rattle.play_tasks.specs.Lines.{LineDeed, Goes, read_deed, read_by, still}
 use Rattle.play_tasks.specs.inside.Working.{CallComes}
 use Rattle.play_tasks.proofs.lines.play_read.Goals as goal
 
@@ -34,7 +34,7 @@ returns-in-List-clause-comes c =
       | inl w ↦ goes line x (List_call w.0) s w.1 refl
       | inr w ↦ goes line x (Get w.0) s w.1 refl
     ] in
-    subst (λ (d : Deed). CallComes line c.args.at c.args.shown.items s d c.play_look.result) (sym is) (c.play_look.ensures.comes c.args.at)
+    subst (λ (d : LineDeed). CallComes line c.args.at c.args.shown.items s d c.play_look.result) (sym is) (c.play_look.ensures.comes c.args.at)
 
 pub returns-in-List-clause-bounded : goal.returns-in-List-clause-bounded
 returns-in-List-clause-bounded c = c.play_look.ensures.bounded c.args.at

@@ -42,3 +42,12 @@ returns-clause-places c =
           ap (λ (t : SessionState). object_put (with_places t path m.placed.items) path c.args.index c.args.bytes c.in-Some.id) c.draw.ensures.after
           ∙ object_placed m.session path c.args.index c.args.bytes m.placed.items (omega (arith, c.len.ensures, c.if-len-le-MOST_INLINE.false)) c.in-Some.id (sym c.draw.ensures.drawn ∙ c.in-Some.is);
     }
+
+pub returns-then-len-le-MOST_INLINE-clause-spent : goal.returns-then-len-le-MOST_INLINE-clause-spent
+returns-then-len-le-MOST_INLINE-clause-spent c = λ long none. absurd (omega (arith, long, c.len.ensures, c.if-len-le-MOST_INLINE.true))
+
+pub returns-in_default-clause-spent : goal.returns-in_default-clause-spent
+returns-in_default-clause-spent c = λ long none. refl
+
+pub returns-clause-spent : goal.returns-clause-spent
+returns-clause-spent c = λ long none. let some = sym c.draw.ensures.drawn ∙ c.in-Some.is in absurd (cc)

@@ -1,7 +1,7 @@
 use Rattle.std.proofs.Common.{◌≡◌, ◌∙◌, ℕ, cond, Option, Some, None, sym, ap, rules}
 use Rattle.object_store.specs.declared.keys.Key.{Key}
 use Rattle.object_store.specs.Machine.{same_key}
-use Rattle.mem_store.specs.Logs.{key_changed}
+use Rattle.mem_store.specs.KeptEvents.{key_changed}
 use Rattle.mem_store.specs.Places.{place_in, place_left}
 use Rattle.mem_store.proofs.Changing.{after-some, after-same, same-option, OnOk-then}
 use Rattle.mem_store.proofs.index.Index.follow.Goals as goal

@@ -1,6 +1,6 @@
 use Rattle.std.proofs.Common.{◌≡◌, ◌∙◌, List, length, sym, ap, rules}
 use Rattle.object_store.specs.declared.events.Event.{Event}
-use Rattle.mem_store.specs.Logs.{told}
+use Rattle.mem_store.specs.KeptEvents.{told}
 use Rattle.mem_store.proofs.Told.{length-told}
 use Rattle.mem_store.proofs.journal.Journal.len.Goals as goal
 

@@ -2,7 +2,7 @@ use Rattle.std.proofs.Common.{◌≡◌, ◌∙◌, List, subst, sym, ap, rules}
 use Rattle.object_store.specs.declared.events.Event.{Event}
 use Rattle.object_store.specs.declared.events.Entry.{Entry}
 use Rattle.object_store.specs.Machine.{found, IsListing}
-use Rattle.mem_store.specs.Logs.{told}
+use Rattle.mem_store.specs.KeptEvents.{told}
 use Rattle.mem_store.specs.Listed.{entries_in}
 use Rattle.mem_store.proofs.Shelved.{IsShelf, listing-shelf, IfOk-then}
 use Rattle.mem_store.proofs.journal.Journal.listing.Goals as goal

@@ -8,9 +8,9 @@ use Rattle.object_store.specs.declared.events.StoreFault.TheVariants.{NoMemory}
 use Rattle.object_store.specs.declared.events.Event.{Event}
 use Rattle.object_store.specs.Machine.{Stored, got_of}
 use Rattle.mem_store.specs.declared.answers.Content.{Content}
-use Rattle.mem_store.specs.declared.logs.Answer.TheVariants.{Stood}
+use Rattle.mem_store.specs.declared.kept_events.Answer.TheVariants.{Stood}
 use Rattle.mem_store.specs.Standing.{copy_of, got_from}
-use Rattle.mem_store.specs.Logs.{puts_in}
+use Rattle.mem_store.specs.KeptEvents.{puts_in}
 use Rattle.mem_store.specs.Memory.{journal_of, IsLogged}
 use Rattle.mem_store.proofs.Calls.{Called-exactly, Answers-logged, logged-op, at-ok}
 use Rattle.mem_store.proofs.StandingLemmas.{got_from-copy}

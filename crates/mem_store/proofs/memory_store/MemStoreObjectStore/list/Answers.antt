@@ -7,7 +7,7 @@ use Rattle.object_store.specs.declared.events.StoreFault.TheVariants.{NoMemory}
 use Rattle.object_store.specs.declared.events.Entry.{Entry}
 use Rattle.object_store.specs.declared.events.Event.{Event}
 use Rattle.object_store.specs.Machine.{found, IsListing}
-use Rattle.mem_store.specs.declared.logs.Answer.TheVariants.{Listed as Kept}
+use Rattle.mem_store.specs.declared.kept_events.Answer.TheVariants.{Listed as Kept}
 use Rattle.mem_store.specs.Memory.{journal_of, IsLogged}
 use Rattle.mem_store.proofs.Calls.{Called-exactly, Answers-logged, at-ok}
 use Rattle.mem_store.proofs.memory_store.MemStoreObjectStore.list.Goals as goal

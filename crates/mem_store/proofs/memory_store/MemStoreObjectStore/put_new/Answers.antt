@@ -5,8 +5,8 @@ use Rattle.object_store.specs.declared.events.New.{New as Answer}
 use Rattle.object_store.specs.declared.events.Reply.TheVariants.{New as Told}
 use Rattle.object_store.specs.declared.events.Event.{Event}
 use Rattle.object_store.specs.Machine.{Stored, new_of}
-use Rattle.mem_store.specs.declared.logs.Answer.TheVariants.{Stood}
-use Rattle.mem_store.specs.Logs.{puts_in}
+use Rattle.mem_store.specs.declared.kept_events.Answer.TheVariants.{Stood}
+use Rattle.mem_store.specs.KeptEvents.{puts_in}
 use Rattle.mem_store.specs.Memory.{journal_of, IsLogged}
 use Rattle.mem_store.proofs.Calls.{Called-exactly, Answers-logged, logged-op}
 use Rattle.mem_store.proofs.memory_store.MemStoreObjectStore.put_new.Goals as goal

@@ -1,6 +1,6 @@
 use Rattle.std.proofs.Common.{◌≡◌, ◌≤◌, sym, ap, subst, ◌∙◌, Ok, Err, Result}
 use Rattle.std.specs.FinMap.{len}
-use Rattle.ice_ids.specs.Drawing.{drawn8}
+use Rattle.ice_ids.specs.Drawing.{drawn8, after8}
 use Rattle.manifest_file.specs.declared.manifest.Place.{Place}
 use Rattle.zarr_tree.specs.declared.edit.EditFault.{EditFault}
 use Rattle.zarr_tree.specs.Edits.{most_nodes}
@@ -20,7 +20,7 @@ fault_told : (c : In-Err) → Enters (add_refusal (nodes_seen (viewed c.self.ins
 fault_told c = subst (λ (r : Result (Unit {0}) EditFault). Enters (add_refusal (nodes_seen (viewed c.self.inside)) c.args.path.now) (with_added c.self.inside.changes c.args.path.now (record { id = c.in-Some.id; text = c.args.meta.text })) c.self.inside.changes r c.add.new.self) c.in-Err.is c.add.ensures
 
 pub spent-requires : goal.spent-requires
-spent-requires c = ap (λ (s : SessionState). drawn8 s.ids) (sym c.self.view_is) ∙ sym c.next8.ensures.0 ∙ c.in_default.is
+spent-requires c = ap (λ (s : SessionState). drawn8 s.ids) (sym c.self.view_is) ∙ ap drawn8 (sym c.ids-ids.ensures) ∙ sym c.next8.ensures.0 ∙ c.in_default.is
 
 pub invariant_of-self : goal.invariant_of-self
 invariant_of-self c =
@@ -41,6 +41,6 @@ invariant_of-self-2 c = few-after _ _ _ c.args.path.now _ c.in_default-add.ensur
 pub returns : goal.returns
 returns c =
     let v = viewed c.self.inside in
-    let new = viewed (record c.self.inside { changes = c.add.new.self; ids = c.next8.new.self }) in
-    let at_view = there v c.args.path.now c.args.meta.text c.in-Some.id c.add.new.self c.next8.new.self (sym c.next8.ensures.0 ∙ c.in-Some.is) c.next8.ensures.1 c.in_default-add.ensures.0 c.in_default-add.ensures.1 in
+    let new = viewed (record c.self.inside { changes = c.add.new.self; ids = c.new.result }) in
+    let at_view = there v c.args.path.now c.args.meta.text c.in-Some.id c.add.new.self c.new.result (ap drawn8 (sym c.ids-ids.ensures) ∙ sym c.next8.ensures.0 ∙ c.in-Some.is) (c.new.ensures ∙ c.next8.ensures.1 ∙ ap after8 c.ids-ids.ensures) c.in_default-add.ensures.0 c.in_default-add.ensures.1 in
     subst (λ (s : SessionState). entered s c.args.path.now c.args.meta.text ≡ Ok (c.in-Some.id, new)) c.self.view_is at_view

@@ -1,10 +1,8 @@
-use Rattle.zarr_changes.specs.Sets.{set_refusal, length_of}
-use Rattle.session.specs.Sessions.{base_nodes, nodes_seen}
+use Rattle.session.specs.Sessions.{base_nodes}
 use Rattle.session.specs.Viewed.{viewed}
-use Rattle.session.proofs.Chunking.{few-chunk-set}
+use Rattle.session.proofs.Places.{few-entry}
 use Rattle.session.proofs.session.Session.enter.Goals as goal
 
 pub invariant_of-self : goal.invariant_of-self
 invariant_of-self c =
-    let v = viewed c.self.inside in
-    few-chunk-set c.self.inside.changes (base_nodes v) c.args.path.now c.args.index.now c.args.place (set_refusal (nodes_seen v) c.args.path.now c.args.index.now (length_of c.args.place)) c.set_chunk.new.self c.set_chunk.result c.self.invariant c.set_chunk.ensures
+    few-entry c.enter_chunk.result c.self.inside.changes c.enter_chunk.new.self (base_nodes (viewed c.self.inside)) c.args.node c.args.index c.args.place c.self.invariant c.enter_chunk.ensures.ok c.enter_chunk.ensures.err

@@ -6,15 +6,15 @@ use Rattle.turn_cell.proofs.cell.TurnCell.close.Goals as goal
 
 pub unwrap-requires : goal.unwrap-requires
 unwrap-requires g c =
-    let home = closes g.T.Logged.journal g.T.Logged.owner g.T.Logged.count _ _ _ _ _ c.close_with-closed.ensures.values.2 (c.word.ensures ∙ ap some c.wait_unless_free.ensures) c.take-value.ensures.value in
+    let home = closes g.T.Journaled.journal g.T.Journaled.owner g.T.Journaled.count _ _ _ _ _ c.close_with-closed.ensures.values.2 (c.word.ensures ∙ ap some c.wait_unless_free.ensures) c.take-value.ensures.value in
     rw home.is (search rules)
 
 pub returns : goal.returns
 returns g c =
-    let home = closes g.T.Logged.journal g.T.Logged.owner g.T.Logged.count _ _ _ _ _ c.close_with-closed.ensures.values.2 (c.word.ensures ∙ ap some c.wait_unless_free.ensures) c.take-value.ensures.value in
-    let agrees = closed_agrees g.T.Logged.journal g.T.Logged.owner g.T.Logged.count _ _ _ home c.unwrap.ensures in
+    let home = closes g.T.Journaled.journal g.T.Journaled.owner g.T.Journaled.count _ _ _ _ _ c.close_with-closed.ensures.values.2 (c.word.ensures ∙ ap some c.wait_unless_free.ensures) c.take-value.ensures.value in
+    let agrees = closed_agrees g.T.Journaled.journal g.T.Journaled.owner g.T.Journaled.count _ _ _ home c.unwrap.ensures in
     record {
       journal = agrees.follows;
       count = agrees.counted;
-      whole = λ all. whole g.T.Logged.owner _ _ _ all agrees.follows;
+      whole = λ all. whole g.T.Journaled.owner _ _ _ all agrees.follows;
     }

@@ -9,12 +9,12 @@ join_seat-requires g c = (
   c.requires.cell.1,
   c.args.other.held ∙ ap (λ b. hands b) c.requires.idle.1,
   search rules,
-  joins g.T.Logged.journal g.T.Logged.owner g.T.Logged.count c.args.pass.now.seat.id c.args.pass.now.seat.me.0 c.args.other.seat.id c.args.other.seat.me.0 c.requires.idle.0 c.requires.idle.1 c.requires.side_by_side,
+  joins g.T.Journaled.journal g.T.Journaled.owner g.T.Journaled.count c.args.pass.now.seat.id c.args.pass.now.seat.me.0 c.args.other.seat.id c.args.other.seat.me.0 c.requires.idle.0 c.requires.idle.1 c.requires.side_by_side,
 )
 
 pub load-requires : goal.load-requires
 load-requires g c = (
   search rules,
   search rules,
-  looks g.T.Logged.journal g.T.Logged.owner g.T.Logged.count _ c.join_seat.new.seat.id c.join_seat.new.seat.me _ _ c.join_seat.ensures.2 (c.args.pass.now.held ∙ ap (λ b. hands b) c.requires.idle.0),
+  looks g.T.Journaled.journal g.T.Journaled.owner g.T.Journaled.count _ c.join_seat.new.seat.id c.join_seat.new.seat.me _ _ c.join_seat.ensures.2 (c.args.pass.now.held ∙ ap (λ b. hands b) c.requires.idle.0),
 )

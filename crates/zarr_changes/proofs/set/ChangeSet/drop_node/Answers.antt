@@ -8,7 +8,7 @@ use Rattle.zarr_tree.specs.Nodes.{Node}
 use Rattle.zarr_tree.specs.Rows.{node_found}
 use Rattle.zarr_tree.specs.Changes.{has_id, has_id_within}
 use Rattle.zarr_tree.specs.Touched.{lists}
-use Rattle.zarr_tree.specs.Held.{Held, Entry, nodes_over}
+use Rattle.zarr_tree.specs.Held.{Held, HeldEntry, nodes_over}
 use Rattle.zarr_changes.specs.declared.set.ChangeSet.TheInside.{Inside}
 use Rattle.zarr_changes.specs.Edits.{with_id}
 use Rattle.zarr_changes.specs.inside.Own.{texts_left, chunks_left}
@@ -40,7 +40,7 @@ returns g c =
     let same_entries : c.if-has_own.self-inside.entries ≡ c.self.inside.entries =
     elim c.if-has_own.branch [ then-has_own+in_ok-insert w ↦ ap (λ (s : Inside). s.entries) w.self-inside-is | else-has_own w ↦ ap (λ (s : Inside). s.entries) w.self-inside-is ] in
     let stay : c.remove_all-2.new.self ≡ chunks_left held (lists c.in_ok-ids.ids) =
-    c.remove_all-2.ensures ∙ ap (filter (λ (row : Entry Place). not (lists c.in_ok-ids.ids row.0))) (same_entries ∙ ap (λ (h : Held Place). h.chunks) c.self.view_is) in
+    c.remove_all-2.ensures ∙ ap (filter (λ (row : HeldEntry Place). not (lists c.in_ok-ids.ids row.0))) (same_entries ∙ ap (λ (h : Held Place). h.chunks) c.self.view_is) in
     let held_within : chunks_left held (lists c.in_ok-ids.ids) ≡ chunks_left held (has_id_within (nodes_over held nodes) p) =
     c.in_ok-ids.ensures.chunks ∙ (λ i. chunks_left held (has_id_within (nodes_over held nodes) (c.as_str-text.ensures.value i))) in
     let within : texts_left held (lists c.in_ok-ids.ids) ≡ texts_left held (has_id_within (nodes_over held nodes) p) =

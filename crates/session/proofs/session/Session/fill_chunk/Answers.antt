@@ -1,0 +1,34 @@
+use Rattle.std.proofs.Common.{◌≡◌, refl, sym, ap, subst, ◌∙◌, ℕ, List}
+use Rattle.std.specs.Prelude.{replicate}
+use Rattle.store_api.specs.declared.machines.Refusal.{Refusal}
+use Rattle.store_api.specs.Running.{Program}
+use Rattle.session.specs.Sessions.{SessionState, writes}
+use Rattle.session.specs.Viewed.{viewed}
+use Rattle.session.specs.Editing.{refusal_of_edit}
+use Rattle.session.specs.Chunks.{set_program, filled}
+use Rattle.session.specs.Setting.{SetBegun, SetRefused}
+use Rattle.session.specs.inside.Working.{put_chunk_of}
+use Rattle.session.proofs.Chunking.{set_read_only}
+use Rattle.session.proofs.Filled.{fill_refused, fill_there}
+use Rattle.session.proofs.session.Session.fill_chunk.Goals as goal
+
+pub returns-then-not-writes : goal.returns-then-not-writes
+returns-then-not-writes c = (set_read_only c.args.self c.args.path.now c.args.index.now (filled c.args.self c.args.path.now c.args.byte) (sym c.writes.ensures ∙ c.if-not-writes.true), refl)
+
+pub returns-in-Err : goal.returns-in-Err
+returns-in-Err c =
+    let p = c.args.path.now in
+    let i = c.args.index.now in
+    let at_view = fill_refused (viewed c.self.inside) p i c.args.byte c.in-Err.fault (ap writes c.self.view_is ∙ (sym c.writes.ensures ∙ c.if-not-writes.false)) (sym c.find_chunk.ensures ∙ c.in-Err.is) in
+    let at_now = subst (λ (s : SessionState). SetRefused (set_program s p i (filled s p c.args.byte)) s s (refusal_of_edit c.in-Err.fault)) c.self.view_is at_view in
+    subst (λ (r : Refusal). SetRefused (set_program c.args.self p i (filled c.args.self p c.args.byte)) c.args.self c.args.self r) (sym c.refusal_of_edit.ensures) at_now
+
+pub returns-in-Ok-made : goal.returns-in-Ok-made
+returns-in-Ok-made c =
+    let p = c.args.path.now in
+    let i = c.args.index.now in
+    let at = c.in-Ok.chunk in
+    let writing = ap writes c.self.view_is ∙ (sym c.writes.ensures ∙ c.if-not-writes.false) in
+    let there = subst (λ (s : SessionState). put_chunk_of s at.node i (replicate at.bytes c.args.byte) ≡ set_program s p i (filled s p c.args.byte)) c.self.view_is (fill_there (viewed c.self.inside) p i c.args.byte at writing (sym c.find_chunk.ensures ∙ c.in-Ok.is)) in
+    let given : put_chunk_of c.args.self at.node c.in-Ok-made.index c.in-Ok-made.bytes ≡ put_chunk_of c.args.self at.node i (replicate at.bytes c.args.byte) = ap (λ (held : List ℕ × List ℕ). put_chunk_of c.args.self at.node held.0 held.1) c.in-Ok-made.ensures in
+    subst (λ (q : Program SessionState). SetBegun q c.args.self c.set_held.result) (given ∙ there) c.set_held.ensures
