@@ -25,13 +25,14 @@ use Rattle.manifest_file.specs.declared.manifest.Place.TheVariants.{Object}
 use Rattle.zarr_changes.specs.declared.placing.Placed.{Placed}
 use Rattle.session.specs.Placing.{with_places}
 use Rattle.session.proofs.Places.{places-more}
-use Rattle.store_api.specs.Program.{IsSure, Lands, moves_branch}
-use Rattle.store_api.specs.Driving.{Took}
+use Rattle.store_api.specs.Program.{IsSure, Lands, is_told_surely}
+use Rattle.store_api.specs.Driving.{Took, has_failed}
 use Rattle.array_region.specs.declared.setting.Writing.{Writing}
 use Rattle.array_region.specs.Filling.{writing_rest, state_after, answer_after}
 use Rattle.array_region.specs.Getting.{kept_of}
-use Rattle.array_region.specs.Setting.{set_after, object_put, run_old, run_entered, run_reads, run_met, RunLands, RunLandsBy, RunTook}
-use Rattle.array_region.proofs.Taking.{heard_manifest, heard_object}
+use Rattle.array_region.specs.Setting.{set_after, object_put, run_old, run_entered, run_reads, run_met, RunLands, RunLandsBy, IsRunSure, RunTook}
+use Rattle.array_region.proofs.Taking.{heard_read}
+use Rattle.store_api.proofs.Programs.{told-failed}
 
 pub lands_by : (p : Program SessionState) (run : Run) (result : Result (Next (Unit {0})) Refusal) → RunLands p run result → RunLandsBy p run result
 lands_by p run (Ok next.Again) l = l
@@ -43,14 +44,14 @@ lands_excuses p run r (Ok next) l = tt
 lands_excuses p run r (Err why) l = λ h. l.calm
 
 module _ (run : Run) (result : Result (Next (Unit {0})) Refusal) (r : Reply) where
-  pub run_manifest : (id : Id12) (f : Result ManifestFile Refusal → Program SessionState) (told : Result ManifestFile Refusal) → told ≡ manifest_told id r → RunLands (f told) run result → RunTook (Ask (Get (Manifest id)) (λ x. f (manifest_told id x))) r run result
-  run_manifest id f told e l =
-      (heard_manifest id (λ x. RunLandsBy (f x) run result) r (subst (λ x. RunLandsBy (f x) run result) e (lands_by (f told) run result l)), lands_excuses (f told) run r result l, refl)
+  pub run_manifest : (id : Id12) (f : Result ManifestFile Refusal → Program SessionState) (held : ManifestFile) → Ok held ≡ manifest_told id r → RunLands (f (Ok held)) run result → RunTook (Ask (Get (Manifest id)) (λ x. f (manifest_told id x))) r run result
+  run_manifest id f held e l =
+      (heard_read (manifest_told id) (λ done. refl) (λ x. RunLandsBy (f x) run result) (λ x. IsRunSure (f x) result) held r e (lands_by (f (Ok held)) run result l), lands_excuses (f (Ok held)) run r result l, refl)
 
-  pub run_object : (want : ℕ) (id : Id12) (offset size : ℕ) (f : Result (List ℕ) Refusal → Program SessionState) (told : Result (List ℕ) Refusal) → told ≡ object_told want id offset size r → RunLands (f told) run result
+  pub run_object : (want : ℕ) (id : Id12) (offset size : ℕ) (f : Result (List ℕ) Refusal → Program SessionState) (bytes : List ℕ) → Ok bytes ≡ object_told want id offset size r → RunLands (f (Ok bytes)) run result
       → RunTook (Ask (Get (Chunk_key id)) (λ x. f (object_told want id offset size x))) r run result
-  run_object want id offset size f told e l =
-      (heard_object want id offset size (λ x. RunLandsBy (f x) run result) r (subst (λ x. RunLandsBy (f x) run result) e (lands_by (f told) run result l)), lands_excuses (f told) run r result l, refl)
+  run_object want id offset size f bytes e l =
+      (heard_read (object_told want id offset size) (λ done. refl) (λ x. RunLandsBy (f x) run result) (λ x. IsRunSure (f x) result) bytes r e (lands_by (f (Ok bytes)) run result l), lands_excuses (f (Ok bytes)) run r result l, refl)
 
 -- an object was put, and the chunk is one of those so far
 module _ (m new : Run) (result : Result (Next (Unit {0})) Refusal) (index bytes : List ℕ) (id : Id12) (placed : List Placed) (is : placed ≡ m.placed.items ++ (record { index = index; place = Object id 0 (length bytes) }) ∷ []) where
@@ -63,14 +64,14 @@ module _ (m new : Run) (result : Result (Next (Unit {0})) Refusal) (index bytes 
       let same : with_places m.session (run_reads m).path placed ≡ with_chunk (run_entered m) (run_reads m).path index (Object id 0 (length bytes)) =
       ap (with_places m.session (run_reads m).path) is ∙ places-more (run_reads m).path m.placed.items m.session (record { index = index; place = Object id 0 (length bytes) }) in
       let k = subst (λ (t : SessionState). RunLands (write_chunks (run_old m) t (run_reads m) m.given.numbers.items (kept_of m.kept) (run_met m)) new result) same l in
-      subst (λ (x : Reply). RunTook put x new result) (sym e) (lands_by _ new result k, lands_excuses _ new (Is_new (New_done version now)) result k, refl)
+      subst (λ (x : Reply). RunTook put x new result) (sym e) ((lands_by _ new result k, λ t. absurd (cc)), lands_excuses _ new (Is_new (New_done version now)) result k, refl)
 
 -- ---- the machine around a run
-wrap_lands : (q : Program SessionState) (run : Run) (answered : Result (Next (Unit {0})) Refusal) (moves : Bool) → moves ≡ false → RunLandsBy q run answered
-    → Lands q (writing_rest (state_after run answered)) (answer_after run answered) × (moves ≡ true → IsSure q (answer_after run answered))
-wrap_lands q run (Ok next.Again) moves f l = (l, λ t. tt)
-wrap_lands q run (Ok (next.Ready done)) moves f l = ((l, tt), λ t. tt)
-wrap_lands q run (Err why) moves f l = ((tt, l), λ t. cc)
+wrap_lands : (q : Program SessionState) (run : Run) (answered : Result (Next (Unit {0})) Refusal) (surely failed : Bool) → surely ≡ failed → RunLandsBy q run answered × (failed ≡ true → IsRunSure q answered)
+    → Lands q (writing_rest (state_after run answered)) (answer_after run answered) × (surely ≡ true → IsSure q (answer_after run answered))
+wrap_lands q run (Ok next.Again) surely failed f l = (l.0, λ t. tt)
+wrap_lands q run (Ok (next.Ready done)) surely failed f l = ((l.0, tt), λ t. tt)
+wrap_lands q run (Err why) surely failed f l = ((tt, l.0), λ t. l.1 (sym f ∙ t))
 
 wrap_excuses : (reply : Reply) (run : Run) (answered : Result (Next (Unit {0})) Refusal) → Excuses reply answered → Excuses reply (answer_after run answered)
 wrap_excuses reply run (Ok next.Again) x = tt
@@ -89,7 +90,7 @@ heard_map f (replies.Listed listed) h = f (replies.Listed listed) h
 wrap_took : (p : Program SessionState) (reply : Reply) (run : Run) (answered : Result (Next (Unit {0})) Refusal) → RunTook p reply run answered → Took p reply (writing_rest (state_after run answered)) (answer_after run answered)
 wrap_took (Done a) reply run answered t = absurd t
 wrap_took (Ask op k) reply run answered t =
-    (heard_map (λ r l. wrap_lands (k r) run answered (moves_branch op) t.2 l) reply t.0, wrap_excuses reply run answered t.1)
+    (heard_map (λ r l. wrap_lands (k r) run answered (is_told_surely op r) (has_failed r) (told-failed op r t.2) l) reply t.0, wrap_excuses reply run answered t.1)
 
 pub answered_took : (p : Program SessionState) (reply : Reply) (run : Run) (answered : Result (Next (Unit {0})) Refusal) (state : Writing) (result : Result (Next SessionState) Refusal)
     → RunTook p reply run answered → state ≡ state_after run answered → result ≡ answer_after run answered → Took p reply (writing_rest state) result

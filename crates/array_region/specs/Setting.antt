@@ -13,7 +13,7 @@ use Rattle.store_api.specs.declared.machines.Refusal.TheVariants.{Missing, BadFi
 use Rattle.store_api.specs.declared.machines.Refusal.TheVariants.{IdsSpent, StoreFault, NoMemory}
 use Rattle.store_api.specs.Program.{Done, Ask, IsAsk, is_no_memory, moves_branch}
 use Rattle.store_api.specs.Running.{Program, ◌>>=◌}
-use Rattle.store_api.specs.Driving.{Heard, Excuses}
+use Rattle.store_api.specs.Driving.{Heard, Excuses, has_failed}
 use Rattle.manifest_file.specs.declared.manifest.Place.TheVariants.{Object}
 use Rattle.session.specs.Sessions.{SessionState, writes}
 use Rattle.session.specs.Chunks.{set_program, with_chunk, after_object}
@@ -190,9 +190,14 @@ MayRefuseWrite StoreFault = Unit {0}
 MayRefuseWrite NoMemory = Unit {0}
 MayRefuseWrite _ = ⊥
 
+-- a refusal that isn't free, also where it tells a want of memory
+abbrev pub IsRunSure : Program SessionState → Result (Next (Unit {0})) Refusal → Type 0
+IsRunSure p (Ok answer) = Unit {0}
+IsRunSure p (Err why) = p ≡ Done (Err why)
+
 -- What a run that had p to do came to by a reply. No operation of it moves a branch.
 abbrev pub RunTook : Program SessionState → Reply → Run → Result (Next (Unit {0})) Refusal → Type 0
 RunTook (Done a) reply run result = ⊥
 RunTook (Ask op k) reply run result =
-    Heard (λ r. RunLandsBy (k r) run result) reply × Excuses reply result
-    × (moves_branch op ≡ false)
+    Heard (λ r. RunLandsBy (k r) run result × (has_failed r ≡ true → IsRunSure (k r) result)) reply
+    × Excuses reply result × (moves_branch op ≡ false)

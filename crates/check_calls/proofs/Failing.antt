@@ -18,7 +18,7 @@ use Rattle.object_store.specs.declared.events.Reply.TheVariants.{Got as Is_got, 
 use Rattle.object_store.specs.declared.events.Event.{Event}
 use Rattle.store_api.specs.declared.machines.Refusal.TheVariants.{Unsound, TooDeep, StoreFault}
 use Rattle.store_api.specs.Callers.{Caller, Waits, has_failed}
-use Rattle.store_api.specs.Plays.{Ended, Ask, Or, PlayLeads}
+use Rattle.store_api.specs.Plays.{Ended, Ask, Or, behind, PlayLeads}
 use Rattle.check_reports.specs.declared.faults.FaultKind.{FaultKind}
 use Rattle.check_reports.specs.declared.faults.FaultKind.TheVariants.{Ring}
 use Rattle.repo_read.specs.Chains.{most_snapshots}
@@ -76,14 +76,14 @@ goes-get d w key next h goes = (starves d w, by)
     deed : Reply → Deed
     deed reply = record { op = Get key; reply = reply }
 
-    by : (reply : Reply) → Goes (d ++ record { op = Get key; reply = reply } ∷ []) (Or (on_got w next reply) (starved w))
+    by : (reply : Reply) → Goes (d ++ record { op = Get key; reply = reply } ∷ []) (behind (Get key) reply (on_got w next reply) (starved w))
     by (Is_got got) = (goes got (d ++ deed (Is_got got) ∷ []) (one-more d (deed (Is_got got)) h refl), starves (d ++ deed (Is_got got) ∷ []) w)
     by (Is_new g) = (faults (d ++ deed (Is_new g) ∷ []) w, starves (d ++ deed (Is_new g) ∷ []) w)
     by (Is_over g) = (faults (d ++ deed (Is_over g) ∷ []) w, starves (d ++ deed (Is_over g) ∷ []) w)
     by (Is_gone g) = (faults (d ++ deed (Is_gone g) ∷ []) w, starves (d ++ deed (Is_gone g) ∷ []) w)
     by (Is_gone_at g) = (faults (d ++ deed (Is_gone_at g) ∷ []) w, starves (d ++ deed (Is_gone_at g) ∷ []) w)
     by (Is_listed g) = (faults (d ++ deed (Is_listed g) ∷ []) w, starves (d ++ deed (Is_listed g) ∷ []) w)
-    by (Failed g) = (faults (d ++ deed (Failed g) ∷ []) w, starves (d ++ deed (Failed g) ∷ []) w)
+    by (Failed g) = faults (d ++ deed (Failed g) ∷ []) w
 
 goes-list : (d : List Deed) (w : Work) (part : Part_of_store) (next : List Key → Answer) → NoFailures d → ((keys : List Key) (e : List Deed) → NoFailures e → Goes e (next keys)) → Goes d (asks (ListPart part) w (on_listed w next))
 unfolding Goes
@@ -92,14 +92,14 @@ goes-list d w part next h goes = (starves d w, by)
     deed : Reply → Deed
     deed reply = record { op = ListPart part; reply = reply }
 
-    by : (reply : Reply) → Goes (d ++ record { op = ListPart part; reply = reply } ∷ []) (Or (on_listed w next reply) (starved w))
+    by : (reply : Reply) → Goes (d ++ record { op = ListPart part; reply = reply } ∷ []) (behind (ListPart part) reply (on_listed w next reply) (starved w))
     by (Is_listed l) = (goes (live l.entries) (d ++ deed (Is_listed l) ∷ []) (one-more d (deed (Is_listed l)) h refl), starves (d ++ deed (Is_listed l) ∷ []) w)
     by (Is_got g) = (faults (d ++ deed (Is_got g) ∷ []) w, starves (d ++ deed (Is_got g) ∷ []) w)
     by (Is_new g) = (faults (d ++ deed (Is_new g) ∷ []) w, starves (d ++ deed (Is_new g) ∷ []) w)
     by (Is_over g) = (faults (d ++ deed (Is_over g) ∷ []) w, starves (d ++ deed (Is_over g) ∷ []) w)
     by (Is_gone g) = (faults (d ++ deed (Is_gone g) ∷ []) w, starves (d ++ deed (Is_gone g) ∷ []) w)
     by (Is_gone_at g) = (faults (d ++ deed (Is_gone_at g) ∷ []) w, starves (d ++ deed (Is_gone_at g) ∷ []) w)
-    by (Failed g) = (faults (d ++ deed (Failed g) ∷ []) w, starves (d ++ deed (Failed g) ∷ []) w)
+    by (Failed g) = faults (d ++ deed (Failed g) ∷ []) w
 
 -- ---- parts, manifests, logs
 goes-parts : (next : Work → Answer) → Follows next → (ps : List PartVisit) → Follows (λ w. get_parts ps w next)

@@ -14,7 +14,7 @@ use Rattle.object_store.specs.declared.events.Reply.TheVariants.{Got as Is_got, 
 use Rattle.store_api.specs.declared.machines.Refusal.{Refusal}
 use Rattle.store_api.specs.declared.machines.Refusal.TheVariants.{NoMemory}
 use Rattle.store_api.specs.Callers.{Fits, has_failed}
-use Rattle.store_api.specs.Program.{Done, Ask as Ask_next, moves_branch}
+use Rattle.store_api.specs.Program.{Done, Ask as Ask_next, is_told_surely}
 use Rattle.store_api.specs.Plays.{Play, Ended, Ask, Or, call, behind}
 use Rattle.cleanup_reports.specs.declared.removed.Removed.{Removed}
 use Rattle.collecting.specs.Walks.{Walk, fresh, IsObject, Marked, Doomed, RefsRead, May, ended}
@@ -38,10 +38,10 @@ PlayGoes cutoff t (Ended outcome) = Ends cutoff t.walk t.last outcome
 PlayGoes cutoff t (Ask op starved next) = (May cutoff t.walk op × InOrder cutoff t.walk op) × PlayGoes cutoff t starved × ((reply : Reply) → PlayGoes cutoff (follow cutoff t op reply) (next reply))
 PlayGoes cutoff t (Or p q) = PlayGoes cutoff t p × PlayGoes cutoff t q
 
-behind-goes : (cutoff : ℕ) (t : Trail) (op : Op) (p s : Play Collected) (over : Bool) → moves_branch op ≡ over → PlayGoes cutoff t p → PlayGoes cutoff t s → PlayGoes cutoff t (behind op p s)
+behind-goes : (cutoff : ℕ) (t : Trail) (op : Op) (reply : Reply) (p s : Play Collected) (surely : Bool) → is_told_surely op reply ≡ surely → PlayGoes cutoff t p → PlayGoes cutoff t s → PlayGoes cutoff t (behind op reply p s)
 unfolding PlayGoes
-behind-goes cutoff t op p s true e g h = rw e g
-behind-goes cutoff t op p s false e g h = rw e (g, h)
+behind-goes cutoff t op reply p s true e g h = rw e g
+behind-goes cutoff t op reply p s false e g h = rw e (g, h)
 
 -- a marking, and then what follows its answer
 goes-call : (cutoff : ℕ) (Q : Trail → Result (List Key) Refusal → Type 0) (t : Trail) (p : Answer) (f : Result (List Key) Refusal → Play Collected) → Marks cutoff Q t p
@@ -51,7 +51,7 @@ goes-call cutoff Q t (Done a) f m g h = g a t m.0 m.1
 goes-call cutoff Q t (Ask_next op next) f m g h = (
   m.1,
   h t m.0,
-  λ reply. behind-goes cutoff (follow cutoff t op reply) op (call (next reply) f) (f (Err NoMemory)) (moves_branch op) refl (goes-call cutoff Q (follow cutoff t op reply) (next reply) f (m.2 reply) g h) (h (follow cutoff t op reply) (marks-calm cutoff Q (follow cutoff t op reply) (next reply) (m.2 reply))),
+  λ reply. behind-goes cutoff (follow cutoff t op reply) op reply (call (next reply) f) (f (Err NoMemory)) (is_told_surely op reply) refl (goes-call cutoff Q (follow cutoff t op reply) (next reply) f (m.2 reply) g h) (h (follow cutoff t op reply) (marks-calm cutoff Q (follow cutoff t op reply) (next reply) (m.2 reply))),
 )
 
 -- ---- removals

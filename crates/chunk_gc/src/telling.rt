@@ -2,7 +2,7 @@
 
 ghost use Rattle.std.specs.Prelude.{◌≡◌, ◌&&◌, IfOk, IfErr};
 ghost use Rattle.live_refs.specs.Live.{live};
-ghost use Rattle.repo_read.specs.Answers.{Answers};
+ghost use Rattle.repo_read.specs.Answers.{Answers, AnswersOutright};
 ghost use Rattle.chunk_gc.specs.Told.{first_told, listed_told, ref_got, is_absent, snapshot_got, manifest_got};
 ghost use Rattle.chunk_gc.specs.Programs.{MayRefuseMark};
 
@@ -41,9 +41,11 @@ pub(crate) fn first_told(cutoff: u64, reply: Reply) -> Result<Listed, Refusal>
     Ok(listed)
 }
 
-/// The snapshot that a ref or a lease names, if it is still there. Refusals: `BadFile`, `StoreFault`, `NoMemory`.
+/// The snapshot that a ref or a lease names, if it is still there. Refusals: `BadFile`, `StoreFault`, or, where there are bytes,
+/// `NoMemory`.
 pub(crate) fn ref_got(alloc: Global, key: &Key, reply: Reply) -> Result<Option<Id12>, Refusal>
     ensures told { Answers (ref_got key.now reply) result }
+    ensures outright { AnswersOutright reply (ref_got key.now reply) result }
     ensures listed { IfErr result MayRefuseMark }
 {
     let Reply::Got(got) = reply else {
@@ -84,7 +86,8 @@ fn is_passed(passes: bool, reply: &Reply) -> bool
     is_absent(reply) && passes
 }
 
-/// A snapshot; where absent ones are passed over, none for such a one. Refusals: `Missing`, `BadFile`, `StoreFault`, `NoMemory`.
+/// A snapshot; where absent ones are passed over, none for such a one. Refusals: `Missing`, `BadFile`, `StoreFault`, or, where
+/// there are bytes, `NoMemory`.
 pub(crate) fn snapshot_got(
     alloc: Global,
     passes: bool,
@@ -92,6 +95,7 @@ pub(crate) fn snapshot_got(
     reply: Reply,
 ) -> Result<Option<Loaded>, Refusal>
     ensures told { Answers (snapshot_got passes id reply) result }
+    ensures outright { AnswersOutright reply (snapshot_got passes id reply) result }
     ensures listed { IfErr result MayRefuseMark }
 {
     if is_passed(passes, &reply) {

@@ -2,3 +2,4 @@ pub mod Read
 pub mod OneKind
 pub mod OneRefusal
 pub mod Behind
+pub mod Unread

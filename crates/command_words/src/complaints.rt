@@ -1,6 +1,6 @@
 //! What is wrong with words that are no command, for whoever wrote them.
 
-ghost use Rattle.std.specs.Prelude.{◌≡◌, ◌∷◌, List, Ok, Err, Some, IfOk, slice_get, Result as TheResult};
+ghost use Rattle.std.specs.Prelude.{◌≡◌, ◌∷◌, List, Ok, Err, Some, IfOk, IsTrue, OnErr, slice_get, Result as TheResult};
 ghost use Rattle.clap.specs.Words.{App, Text};
 ghost use Rattle.command_words.specs.Complaints.{Complains};
 ghost use Rattle.command_words.specs.declared.reading.Command.{Command};
@@ -10,7 +10,7 @@ ghost use Rattle.command_words.specs.declared.reading.Topic.TheVariants as T;
 ghost use Rattle.command_words.specs.declared.reading.UsageFault.{UsageFault};
 ghost use Rattle.command_words.specs.declared.reading.UsageFault.TheVariants as U;
 ghost use Rattle.command_words.specs.Parsers.{cells, check, grow, kinds_of, mirror, play};
-ghost use Rattle.command_words.specs.Words.{alone, answer_of, box_in, box_said, command_of, count_of};
+ghost use Rattle.command_words.specs.Words.{alone, answer_of, asks_clap, box_in, box_said, command_of, count_of};
 ghost use Rattle.command_words.specs.inside.Parsing.{IsRefused, box_seen};
 
 use crate::parsers::{
@@ -173,11 +173,13 @@ fn word_behind<'a>(others: &'a [Word]) -> Option<Complaint<'a>>
 }
 
 /// What is wrong with the words after the program's name; `None` exactly where they say a command.
+/// Memory is taken only where clap reads the words.
 pub fn complaint_of<'a>(
     alloc: Global,
     words: &'a [Word],
 ) -> Result<Option<Complaint<'a>>, AllocError>
-    ensures { IfOk result (Complains words.entry.now (command_of words.entry.now)) }
+    ensures complains { IfOk result (Complains words.entry.now (command_of words.entry.now)) }
+    ensures memory { OnErr result (IsTrue (asks_clap words.entry.now)) }
 {
     let [first, others @ ..] = words else {
         return Ok(Some(Complaint::NoCommand));

@@ -1,6 +1,6 @@
 //! What the words say.
 
-ghost use Rattle.std.specs.Prelude.{◌≡◌, ◌≢◌, List, Ok, Err, Option, None, Result as TheResult, IfOk, IsTrue, option_map};
+ghost use Rattle.std.specs.Prelude.{◌≡◌, ◌≢◌, List, Ok, Err, Option, None, Result as TheResult, IfOk, IsTrue, OnErr, option_map};
 ghost use Rattle.command_words.specs.Parsers.{cells, check, grow, kinds_of, mirror, play};
 ghost use Rattle.clap.specs.Words.{App, Text};
 ghost use Rattle.command_words.specs.Words.{IsInRange, has_progress, shows_progress, IsSaid, alone, answer_of, are_ones, asks_clap, asks_help, asks_version, box_dir, box_in, box_said, command_of, dir_beside, count_of, dir_of, is_one, name_of, pair_in, pair_of, pair_where, path_of, paths_of};
@@ -385,10 +385,11 @@ fn mirror_pair<'a>(alloc: Global, words: &'a [Word]) -> Result<Location<'a>, All
 /// Where the words say that the repository lies: in a directory exactly where the first word names a
 /// command, clap takes the others, the four words of `cells` hold neither a space nor a line feed, and
 /// `--dir` is among them; in two directories exactly where the first word is `mirror` and clap takes
-/// the others; else in memory.
+/// the others; else in memory. Memory is taken only where clap reads the words.
 pub fn location_of<'a>(alloc: Global, words: &'a [Word]) -> Result<Location<'a>, AllocError>
     ensures dir { IfOk result (λ place. path_of place ≡ dir_of words.entry.now) }
     ensures pair { IfOk result (λ place. paths_of place ≡ pair_of words.entry.now) }
+    ensures memory { OnErr result (IsTrue (asks_clap words.entry.now)) }
 {
     let [first, ..] = words else {
         return Ok(Location::Memory);

@@ -1,6 +1,10 @@
 -- Which fault is told where files fail.
-use Rattle.std.specs.Prelude.{◌≡◌, ◌⊎◌, ℕ, List, Option, Some, Result, Ok, Err, string_bytes}
+use Rattle.std.specs.Prelude.{◌≡◌, ◌⊎◌, ℕ, ℤ, List, Option, Some, Result, Ok, Err, string_bytes}
 use Rattle.std.specs.Option.{option_or}
+use Rattle.std.specs.declared.io.ErrorKind.{ErrorKind}
+use Rattle.std.specs.declared.io.ErrorKind.TheVariants as K
+use Rattle.folder.specs.Told.{cause_by}
+use Rattle.folder.specs.declared.faults.Call.TheVariants as C
 use Rattle.folder.specs.declared.faults.FileFault.{FileFault}
 use Rattle.folder.specs.declared.faults.FileFault.TheVariants as F
 use Rattle.folder.specs.declared.faults.Trouble.{Trouble}
@@ -17,6 +21,18 @@ use Rattle.dir_store.specs.declared.faults.OpenFault.TheVariants as O
 abbrev pub open_fault : FileFault → OpenFault
 open_fault (F.Failed trouble) = O.Failed trouble
 open_fault F.NoMemory = O.NoMemory
+
+-- ... where it can't be listed, for a cause of this kind, with the system's number
+abbrev pub listing_fault : ErrorKind → Option ℤ → OpenFault
+listing_fault K.NotFound number = O.Missing
+listing_fault K.NotADirectory number = O.NotDirectory
+listing_fault K.OutOfMemory number = O.NoMemory
+listing_fault _ number = O.Failed (record { call = C.List; cause = cause_by number })
+
+-- ... as a store says it
+abbrev pub listing_failed : ErrorKind → StoreFault
+listing_failed K.OutOfMemory = NoMemory
+listing_failed _ = Failed
 
 -- the call that failed, and why
 abbrev pub trouble_of : FirstFault → Trouble

@@ -1,5 +1,9 @@
 //! The claim of a directory by one program.
 
+ghost use Rattle.std.specs.Prelude.{◌≡◌};
+ghost use Rattle.std.specs.IoError.{error_kind, raw_os_error};
+ghost use Rattle.dir_store.specs.Faults.{listing_fault};
+
 use crate::clearing::clear;
 use crate::faults::OpenFault;
 use folder::{Call, Lock, refused};
@@ -17,7 +21,9 @@ pub struct Claim {
 }
 
 /// Why a path can't be listed.
-fn listing_fault(error: &io::Error) -> OpenFault {
+fn listing_fault(error: &io::Error) -> OpenFault
+    ensures { result ≡ listing_fault (error_kind error.now) (raw_os_error error.now) }
+{
     match error.kind() {
         ErrorKind::NotFound => OpenFault::Missing,
         ErrorKind::NotADirectory => OpenFault::NotDirectory,

@@ -1,7 +1,9 @@
 //! The directory on disk, as it is worked on.
 
-ghost use Rattle.std.specs.Prelude.{◌≡◌, true, false, None, Some, Ok, IfOk, OnOk, IsTrue, MatchResult, option_copied, string_bytes};
+ghost use Rattle.std.specs.Prelude.{◌≡◌, true, false, None, Some, Ok, Err, IfOk, OnOk, IsTrue, MatchResult, option_copied, string_bytes};
 ghost use Rattle.std.specs.Option.{option_or};
+ghost use Rattle.folder.specs.declared.faults.FileFault.TheVariants as Files;
+ghost use Rattle.folder.specs.declared.faults.Trouble.{Trouble as TheTrouble};
 ghost use Rattle.folder.specs.Files.{SameBut, NoLooser, Leaves, IsKept, IsChanged};
 ghost use Rattle.whole_files.specs.Places.{root_of, asides_of};
 ghost use Rattle.whole_files.specs.Whole.{SameFiles, OnlyAt, IsOutside, LooserAside, IsLeft, bytes_at};
@@ -152,6 +154,9 @@ impl<F: Folder> Directory<F> {
     /// What was done at a path. A failure there is noted.
     fn noted<T>(&mut self, path: String, done: Result<T, FileFault>) -> Result<T, StoreFault>
         ensures told { result ≡ as_told done }
+        ensures noted { (trouble : TheTrouble) → done ≡ Err (Files.Failed trouble)
+            → self.new.first_fault
+            ≡ option_or self.old.first_fault (Some (record { trouble = trouble; path = path })) }
         ensures tree { self.new.tree ≡ self.old.tree }
         ensures places { self.new.places ≡ self.old.places }
         ensures settled { self.new.settled ≡ settled_after self.old.settled done }

@@ -1,9 +1,10 @@
 //! The directory as a store.
 
 ghost use Rattle.std.specs.Prelude.{◌≡◌, refl, true, false, IfOk, OnOk, IsTrue, option_copied};
+ghost use Rattle.std.specs.IoError.{error_kind};
 ghost use Rattle.object_store.specs.Callers.{Called, Counted, as_client};
 ghost use Rattle.dir_store.specs.Store.{view_of, client_of, faults_of, operations_of, clock_of, disk_of, root_of, asides_of, first_fault_of, is_settled, IsNewIn, Raises, IsRightGot, IsRightNew, IsRightOver, IsRightGoneAt, time_of_got, time_of_new, time_of_over, time_of_gone, time_of_gone_at};
-ghost use Rattle.dir_store.specs.Faults.{TellsFirst, TellsFirstIn};
+ghost use Rattle.dir_store.specs.Faults.{TellsFirst, TellsFirstIn, listing_failed};
 ghost use Rattle.dir_store.specs.Listings.{IsListed};
 ghost use Rattle.dir_store.specs.Firm.{AreFirmIf};
 ghost use Rattle.folder.specs.Files.{NoLooser, Leaves};
@@ -20,9 +21,9 @@ use object_store::{
     Version, Viewed, WholeStore, Why,
 };
 use std::alloc::{AllocError, Global};
-use std::fs;
 use std::io::ErrorKind;
 use std::rt::Files;
+use std::{fs, io};
 
 /// A store in a directory. What the directory holds is trusted: contracts speak of the caller, of the
 /// count of faults, and of what an answer says of the bytes that it gives or was given.
@@ -45,6 +46,16 @@ pub struct FolderStore<F, C> {
 /// A store in a directory of the system.
 pub type DirStore<R, C> = FolderStore<SystemFolder<R>, C>;
 
+/// Why a directory can't be listed, as a store says it.
+fn listing_failed(error: &io::Error) -> StoreFault
+    ensures { result ≡ listing_failed (error_kind error.now) }
+{
+    match error.kind() {
+        ErrorKind::OutOfMemory => StoreFault::NoMemory,
+        _ => StoreFault::Failed,
+    }
+}
+
 impl<R: Files + AllocGlobal + Clone + Drop, C: Clock + Drop> FolderStore<SystemFolder<R>, C> {
     /// The store in the directory at this path, for the client 0. `Failed` comes only where the
     /// directory can't be listed.
@@ -52,11 +63,7 @@ impl<R: Files + AllocGlobal + Clone + Drop, C: Clock + Drop> FolderStore<SystemF
         ensures { IfOk result (IsNewIn path.now clock) }
     {
         if let Err(error) = fs::read_dir(&rt, path) {
-            return Err(if error.kind() == ErrorKind::OutOfMemory {
-                StoreFault::NoMemory
-            } else {
-                StoreFault::Failed
-            });
+            return Err(listing_failed(&error));
         }
         match of_listed(rt, path, clock) {
             Ok(store) => Ok(store),

@@ -21,8 +21,8 @@ use Rattle.store_api.specs.declared.machines.Refusal.{Refusal}
 use Rattle.store_api.specs.declared.machines.Refusal.TheVariants as R
 use Rattle.store_api.specs.Journal.{Each}
 use Rattle.store_api.specs.Callers.{Caller, IsOther, Makes, own_event}
-use Rattle.store_api.specs.Program.{Prog, Done, Ask as Ask_next, events_of}
-use Rattle.store_api.specs.Plays.{Play, Ended, Ask, Or, call, PlayLeads}
+use Rattle.store_api.specs.Program.{Prog, Done, Ask as Ask_next, is_told_surely, events_of}
+use Rattle.store_api.specs.Plays.{Play, Ended, Ask, Or, behind, call, PlayLeads}
 use Rattle.store_api.proofs.Programs.{events_of-others, own-one}
 use Rattle.live_refs.specs.Live.{live}
 use Rattle.cleanup_reports.specs.declared.cases.What.{What}
@@ -124,6 +124,11 @@ module _ (by : Caller) (start : List Event) where
   unfolding PlayLeads
   ends cases result h a = record { more = a.more; since = a.since; told = a.changes }
 
+  behind-told : (op : Op) (reply : Reply) (p s : Play Expired) (h : List Event) (surely : Bool) → is_told_surely op reply ≡ surely → Told p h → Told s h → Told (behind op reply p s) h
+  unfolding PlayLeads
+  behind-told op reply p s h true e t u = rw e t
+  behind-told op reply p s h false e t u = rw e (t, u)
+
   -- a call of what makes gets alone
   calls : {B : Type 0} (c : List ExpiryChange) (f : Result B Refusal → Play Expired) → ((a : Result B Refusal) (h : List Event) → IsAt c h → Told (f a) h) → (p : Prog (Result B Refusal)) (h : List Event) → Reads p → IsAt c h → Told (call p f) h
   unfolding PlayLeads Reads
@@ -132,7 +137,7 @@ module _ (by : Caller) (start : List Event) where
     g (Err R.NoMemory) h n,
     λ reply new m.
         let z : IsAt c new = at-still c (Get key) reply h new refl n m in
-        (calls c f g (k reply) new (r.1 reply) z, g (Err R.NoMemory) new z),
+        behind-told (Get key) reply (call (k reply) f) (f (Err R.NoMemory)) new (is_told_surely (Get key) reply) refl (calls c f g (k reply) new (r.1 reply) z) (g (Err R.NoMemory) new z),
   )
   calls c f g (Ask_next (PutNew key bytes why) k) h r n = absurd r.0
   calls c f g (Ask_next (PutOver key bytes old why) k) h r n = absurd r.0

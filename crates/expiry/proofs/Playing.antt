@@ -1,5 +1,5 @@
 -- Plays whose operations are each as they should be and whose outcomes tell what they should; and calls of programs that make gets alone.
-use Rattle.std.proofs.Common.{ℕ, Bool, true, false, cond, List}
+use Rattle.std.proofs.Common.{◌≡◌, ℕ, Bool, true, false, cond, List, refl}
 use Rattle.std.specs.Prelude.{Result, Ok, Err}
 use Rattle.object_store.specs.declared.keys.Key.{Key}
 use Rattle.object_store.specs.declared.events.Op.{Op}
@@ -9,9 +9,9 @@ use Rattle.object_store.specs.declared.events.Event.{Event}
 use Rattle.store_api.specs.declared.machines.Refusal.{Refusal}
 use Rattle.store_api.specs.declared.machines.Refusal.TheVariants.{NoMemory}
 use Rattle.store_api.specs.Callers.{Caller, Makes}
-use Rattle.store_api.specs.Program.{Prog, Done, Ask as Ask_next, Leads}
+use Rattle.store_api.specs.Program.{Prog, Done, Ask as Ask_next, Leads, is_told_surely}
 use Rattle.store_api.specs.Running.{Program, on_answer}
-use Rattle.store_api.specs.Plays.{Play, Ended, Ask, Or, call, PlayKeeps, PlayLeads}
+use Rattle.store_api.specs.Plays.{Play, Ended, Ask, Or, behind, call, PlayKeeps, PlayLeads}
 use Rattle.expiry.proofs.Lasting.{Lasts, lasts-makes}
 
 -- ---- programs that make gets alone
@@ -59,6 +59,11 @@ module _ {A : Type 0} (P : List Event → ℕ → Op → Type 0) (Q : A → List
   goes-leads (Ask op starved next) journal g = (goes-leads starved journal g.1, λ reply new m. goes-leads (next reply) new (g.2 reply new m))
   goes-leads (Or p q) journal g = (goes-leads p journal g.0, goes-leads q journal g.1)
 
+  behind-goes : (op : Op) (reply : Reply) (p s : Play A) (journal : List Event) (surely : Bool) → is_told_surely op reply ≡ surely → Goes p journal → Goes s journal → Goes (behind op reply p s) journal
+  unfolding Goes
+  behind-goes op reply p s journal true e g h = rw e g
+  behind-goes op reply p s journal false e g h = rw e (g, h)
+
   -- a call of a program that makes gets alone, and then what follows its answer; N holds all along
   pub goes-call : {B : Type 0} (R : Result B Refusal → List Event → Type 0) (N : List Event → Type 0) → Lasts N → ((h : List Event) (key : Key) → P h by.number (Get key))
       → (f : Result B Refusal → Play A) → ((a : Result B Refusal) (h : List Event) → N h → R a h → Goes (f a) h) → ((h : List Event) → N h → Goes (f (Err NoMemory)) h)
@@ -68,10 +73,9 @@ module _ {A : Type 0} (P : List Event → ℕ → Op → Type 0) (Q : A → List
   goes-call R N lasts gets f g s (Ask_next (Get key) k) journal r n l = (
     gets journal key,
     s journal n,
-    λ reply new m. (
-      goes-call R N lasts gets f g s (k reply) new (r.1 reply) (lasts-makes N lasts by (Get key) reply journal new m n) (l reply new m),
-      s new (lasts-makes N lasts by (Get key) reply journal new m n),
-    ),
+    λ reply new m.
+        let still = lasts-makes N lasts by (Get key) reply journal new m n in
+        behind-goes (Get key) reply (call (k reply) f) (f (Err NoMemory)) new (is_told_surely (Get key) reply) refl (goes-call R N lasts gets f g s (k reply) new (r.1 reply) still (l reply new m)) (s new still),
   )
   goes-call R N lasts gets f g s (Ask_next (PutNew key bytes why) k) journal r n l = absurd r.0
   goes-call R N lasts gets f g s (Ask_next (PutOver key bytes old why) k) journal r n l = absurd r.0

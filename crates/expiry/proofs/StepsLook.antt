@@ -12,7 +12,7 @@ use Rattle.store_api.specs.declared.machines.Refusal.TheVariants.{TooDeep}
 use Rattle.store_api.specs.Program.{Done, IsAsk, IsDone, Lands, NextIsPolite, is_fault}
 use Rattle.store_api.specs.Running.{Program}
 use Rattle.store_api.specs.Driving.{Asks, Awaits, Took}
-use Rattle.repo_read.specs.Answers.{Answers}
+use Rattle.repo_read.specs.Answers.{Answers, AnswersOutright}
 use Rattle.expiry.specs.declared.terms.Terms.{Terms}
 use Rattle.expiry.specs.declared.look.Decision.{Decision}
 use Rattle.expiry.specs.declared.look.Decision.TheVariants.{Keeps}
@@ -62,10 +62,10 @@ below-polite zero cutoff last id journal = tt
 below-polite (suc left) cutoff last id journal = tt
 
 pub below-refused : (left cutoff : ℕ) (last : Seen) (id : Id12) (reply : Reply) (why : Refusal) → Awaits (look_below left cutoff last (Some id)) reply → Answers (snapshot_seen id reply) (Err why)
-    → (q : Program Decision) → IsDone q → Took (look_below left cutoff last (Some id)) reply q (Err why)
+    → AnswersOutright reply (snapshot_seen id reply) (Err why) → (q : Program Decision) → IsDone q → Took (look_below left cutoff last (Some id)) reply q (Err why)
 unfolding look_below
-below-refused zero cutoff last id reply why a t q d = absurd a
-below-refused (suc left) cutoff last id reply why a t q d = refused _ _ _ (snapshot-tells id) reply why a t q d
+below-refused zero cutoff last id reply why a t o q d = absurd a
+below-refused (suc left) cutoff last id reply why a t o q d = refused _ _ _ (snapshot-tells id) reply why a t o q d
 
 pub below-went : (left cutoff : ℕ) (last : Seen) (id : Id12) (reply : Reply) (seen : Seen) → Awaits (look_below left cutoff last (Some id)) reply → Answers (snapshot_seen id reply) (Ok seen)
     → (q : Program Decision) (result : Result (Next Decision) Refusal) → Lands (if is_older cutoff seen.file then Done (cuts last) else look_below (left - 1) cutoff seen (next_of seen.file)) q result

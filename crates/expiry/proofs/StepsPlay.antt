@@ -16,7 +16,7 @@ use Rattle.store_api.specs.declared.machines.Refusal.{Refusal}
 use Rattle.store_api.specs.declared.machines.Refusal.TheVariants.{NoMemory}
 use Rattle.store_api.specs.Callers.{View, Called, Waits, Fits}
 use Rattle.store_api.specs.Driving.{has_failed}
-use Rattle.store_api.specs.Program.{Prog, Done, Ask as Ask_next, is_ask, moves_branch, is_no_memory, Lands, IsSure, Steps, Blames}
+use Rattle.store_api.specs.Program.{Prog, Done, Ask as Ask_next, is_ask, is_told_surely, is_no_memory, Lands, IsSure, Steps, Blames}
 use Rattle.store_api.specs.Plays.{Play, Ask, call, behind, Comes, Acts, Starved, BlamesEnd}
 use Rattle.store_api.proofs.Programs.{made-done, Waits-none}
 use Rattle.expiry.specs.declared.look.Decision.{Decision}
@@ -50,7 +50,7 @@ module _ (f : Result Decision Refusal → Play Expired) (r : Play Expired) where
   goes : (x y : Prog (Result Decision Refusal)) → x ≡ y → Comes (call y f) r → Comes (call x f) r
   goes x y e c = subst (λ (z : Prog (Result Decision Refusal)). Comes (call z f) r) (sym e) c
 
-  -- behind a put over
+  -- behind what is told surely
   sure : (next q : Prog (Result Decision Refusal)) (result : Result (Next Decision) Refusal) → Lands next q result → IsSure next result → Comes (settled f q result) r → Comes (call next f) r
   sure next q (Ok Again) l s c = goes next q l.0 c
   sure next q (Ok (Ready t)) l s c = goes next (Done (Ok t)) l.0 c
@@ -65,14 +65,14 @@ module _ (f : Result Decision Refusal → Play Expired) (r : Play Expired) where
   free next q (Ok (Ready t)) l c = inl (goes next (Done (Ok t)) l.0 c)
   free next q (Err why) l c = refused next q why (is_no_memory why) refl l c
 
-  landed : (op : Op) (over : Bool) (next q : Prog (Result Decision Refusal)) (result : Result (Next Decision) Refusal) → moves_branch op ≡ over → Lands next q result → (moves_branch op ≡ true → IsSure next result) → Comes (settled f q result) r → Comes (behind op (call next f) (f (Err NoMemory))) r
-  landed op true next q result e l s c = rw e (sure next q result l (s e) c)
-  landed op false next q result e l s c = rw e (free next q result l c)
+  landed : (op : Op) (reply : Reply) (surely : Bool) (next q : Prog (Result Decision Refusal)) (result : Result (Next Decision) Refusal) → is_told_surely op reply ≡ surely → Lands next q result → (is_told_surely op reply ≡ true → IsSure next result) → Comes (settled f q result) r → Comes (behind op reply (call next f) (f (Err NoMemory))) r
+  landed op reply true next q result e l s c = rw e (sure next q result l (s e) c)
+  landed op reply false next q result e l s c = rw e (free next q result l c)
 
   -- where there was no memory for an operation
   starves : (old new : View) (p : Prog (Result Decision Refusal)) → is_ask p ≡ true → (IsTrue old.caller.tells → Waits old.caller old.seen new.seen) → Comes (f (Err NoMemory)) r → Starved old new (call p f) r
   starves old new (Done a) e w c = absurd cc
-  starves old new (Ask_next op k) e w c = record { op = op; starved = f (Err NoMemory); next = λ reply. behind op (call (k reply) f) (f (Err NoMemory)); asks = refl; waits = w; comes = c }
+  starves old new (Ask_next op k) e w c = record { op = op; starved = f (Err NoMemory); next = λ reply. behind op reply (call (k reply) f) (f (Err NoMemory)); asks = refl; waits = w; comes = c }
 
   pub look-acts : (old new : View) (p q : Prog (Result Decision Refusal)) (result : Result (Next Decision) Refusal) → is_ask p ≡ true → Steps old new p q result → Comes (settled f q result) r → Blamed (faults result) r → Acts tells_failure old new (call p f) r
   look-acts old new p q result live s c b = record {
@@ -82,12 +82,12 @@ module _ (f : Result Decision Refusal → Play Expired) (r : Play Expired) where
       | inl m ↦ inl (record {
         op = m.op;
         starved = f (Err NoMemory);
-        next = λ reply. behind m.op (call (m.next reply) f) (f (Err NoMemory));
+        next = λ reply. behind m.op reply (call (m.next reply) f) (f (Err NoMemory));
         reply = m.reply;
         asks = ap (λ (x : Prog (Result Decision Refusal)). call x f) m.asks;
         fits = m.fits;
         made = m.made;
-        comes = landed m.op (moves_branch m.op) (m.next m.reply) q result refl m.lands m.sure c;
+        comes = landed m.op m.reply (is_told_surely m.op m.reply) (m.next m.reply) q result refl m.lands m.sure c;
       })
       | inr n ↦ inr (starves old new p live n.waits (subst (λ (x : Result (Next Decision) Refusal). Comes (settled f q x) r) n.result_is c))
     ];

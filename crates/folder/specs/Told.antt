@@ -1,16 +1,25 @@
 -- Calls that failed: their causes, and the texts of both (own).
 use Rattle.std.specs.Prelude.{List, ℕ, ℤ, Option, Some, None, codes}
 use Rattle.std.specs.Fmt.{◌++?◌}
+use Rattle.std.specs.declared.io.ErrorKind.{ErrorKind}
+use Rattle.std.specs.declared.io.ErrorKind.TheVariants as K
 use Rattle.folder.specs.declared.faults.Call.{Call}
 use Rattle.folder.specs.declared.faults.Call.TheVariants as C
 use Rattle.folder.specs.declared.faults.Cause.{Cause}
 use Rattle.folder.specs.declared.faults.Cause.TheVariants as W
+use Rattle.folder.specs.declared.faults.FileFault.{FileFault}
+use Rattle.folder.specs.declared.faults.FileFault.TheVariants as F
 use Rattle.folder.specs.declared.faults.Trouble.{Trouble}
 
 -- why the system refused a call, by the number that it gave, if it gave one
 abbrev pub cause_by : Option ℤ → Cause
 cause_by None = W.Unnamed
 cause_by (Some code) = W.System code
+
+-- why a call wasn't done that takes memory, for a cause of this kind, with the system's number
+abbrev pub fault_by : Call → ErrorKind → Option ℤ → FileFault
+fault_by call K.OutOfMemory number = F.NoMemory
+fault_by call _ number = F.Failed (record { call = call; cause = cause_by number })
 
 abbrev pub call_text : Call → List ℕ
 call_text C.Look = codes "look at"

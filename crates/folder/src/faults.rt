@@ -1,9 +1,9 @@
 //! Why a call on files failed.
 
-ghost use Rattle.std.specs.Prelude.{◌≡◌, Some, Ok, IfOk};
-ghost use Rattle.std.specs.IoError.{raw_os_error};
+ghost use Rattle.std.specs.Prelude.{◌≡◌, Some, Ok, Err, IfErr, IfOk, MatchResult};
+ghost use Rattle.std.specs.IoError.{error_kind, raw_os_error};
 ghost use Rattle.folder.specs.declared.faults.FileFault.TheVariants as FileFault;
-ghost use Rattle.folder.specs.Told.{cause_by, call_text, cause_text, trouble_text};
+ghost use Rattle.folder.specs.Told.{cause_by, fault_by, call_text, cause_text, trouble_text};
 
 use std::alloc::AllocError;
 use std::io::{Error, ErrorKind};
@@ -162,7 +162,9 @@ pub fn refused(call: Call, error: &Error) -> Trouble
 
 /// A call of the system.
 pub(crate) fn done<T>(call: Call, called: io::Result<T>) -> Result<T, Trouble>
-    ensures { IfOk result (λ value. called ≡ Ok value) }
+    ensures done { IfOk result (λ value. called ≡ Ok value) }
+    ensures refused { IfErr called (λ error. result
+        ≡ Err (record { call = call; cause = cause_by (raw_os_error error) })) }
 {
     match called {
         Ok(value) => Ok(value),
@@ -170,11 +172,23 @@ pub(crate) fn done<T>(call: Call, called: io::Result<T>) -> Result<T, Trouble>
     }
 }
 
+/// A call that the system refused, which takes memory.
+fn refused_in_memory(call: Call, error: &Error) -> FileFault
+    ensures { result ≡ fault_by call (error_kind error.now) (raw_os_error error.now) }
+{
+    match error.kind() {
+        ErrorKind::OutOfMemory => FileFault::NoMemory,
+        _ => FileFault::from(refused(call, error)),
+    }
+}
+
 /// A call of the system that takes memory and changes nothing.
-pub(crate) fn done_in_memory<T>(call: Call, called: io::Result<T>) -> Result<T, FileFault> {
+pub(crate) fn done_in_memory<T>(call: Call, called: io::Result<T>) -> Result<T, FileFault>
+    ensures { MatchResult called (λ value. result ≡ Ok value)
+        (λ error. result ≡ Err (fault_by call (error_kind error) (raw_os_error error))) }
+{
     match called {
         Ok(value) => Ok(value),
-        Err(error) if error.kind() == ErrorKind::OutOfMemory => Err(FileFault::NoMemory),
-        Err(error) => Err(FileFault::from(refused(call, &error))),
+        Err(error) => Err(refused_in_memory(call, &error)),
     }
 }

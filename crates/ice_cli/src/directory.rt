@@ -2,7 +2,8 @@
 
 ghost use Rattle.std.specs.Prelude.{◌≡◌, ◌⊎◌};
 ghost use Rattle.std.specs.Process.{exit_status};
-ghost use Rattle.ice_cli.specs.Ending.{EndsInDirectory, EndsUnopened};
+ghost use Rattle.ice_ids.specs.declared.drawing.Draw.TheVariants.{Stream};
+ghost use Rattle.ice_cli.specs.Ending.{EndsByRun, EndsInDirectory, EndsUnopened, IsSilent};
 
 use crate::running::run_over;
 use crate::system_store::SystemStore;
@@ -42,13 +43,13 @@ pub fn tell_fault<R: Eprint>(rt: &R, store: &SystemStore) {
 /// A directory of the system that is opened.
 pub type Directory = Opened<HostRuntime, WallClock<HostRuntime>>;
 
-/// Does what the words say over an opened directory.
+/// Does what the words say over an opened directory, with ids by the random bytes that were drawn for it.
 fn over_opened<R: Input + Print + Eprint + AllocGlobal + Threads + Wait + Sync + Copy + Drop>(
     rt: &R,
     words: &[Word],
     opened: Directory,
 ) -> ExitCode
-    ensures { EndsInDirectory words.now result }
+    ensures { EndsByRun (Stream opened.seed) IsSilent words.now result }
 {
     let Opened {
         claim: _claim,

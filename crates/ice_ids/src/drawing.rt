@@ -131,7 +131,7 @@ pub struct StreamIds {
 
 /// The next word of a stream as bytes.
 #[tactic(auto, unfolding(crate::specs::Drawing::word_bytes, crate::specs::Drawing::behind_word))]
-fn word_bytes(stream: &mut ChaCha20Rng) -> [u8; 4]
+pub fn word_bytes(stream: &mut ChaCha20Rng) -> [u8; 4]
     ensures bytes { result ≡ word_bytes stream.old }
     ensures after { stream.new ≡ behind_word stream.old }
 {
@@ -140,7 +140,7 @@ fn word_bytes(stream: &mut ChaCha20Rng) -> [u8; 4]
 
 /// The next two words of a stream as bytes.
 #[tactic(auto, unfolding(crate::specs::Drawing::word_bytes))]
-fn two_words(stream: &mut ChaCha20Rng) -> [u8; 8]
+pub fn two_words(stream: &mut ChaCha20Rng) -> [u8; 8]
     ensures bytes { result ≡ two_words stream.old }
     ensures after { stream.new ≡ behind_word (behind_word stream.old) }
 {
@@ -162,17 +162,32 @@ impl StreamIds {
         }
     }
 
+    /// Whether nothing is left to draw.
+    pub fn is_dry(&self) -> bool
+        ensures { result ≡ is_dry self.now }
+    {
+        self.counter >= MOST_STREAMED
+    }
+
+    /// The key stream where the next id is read.
+    pub fn stream(&self) -> ChaCha20Rng
+        ensures { result ≡ stream_place self.now }
+    {
+        let mut stream = ChaCha20Rng::from_seed(self.seed);
+        stream.set_stream(u64::from(self.client));
+        stream.set_word_pos(u128::from(self.counter) * 4);
+        stream
+    }
+
     /// The stream at the next draw, which is used up by this call; `None` where nothing is left.
     fn take_stream(&mut self) -> Option<ChaCha20Rng>
         ensures stream { result ≡ (if is_dry self.old then None else Some (stream_place self.old)) }
         ensures after { self.new ≡ stream_after self.old }
     {
-        if self.counter >= MOST_STREAMED {
+        if self.is_dry() {
             return None;
         }
-        let mut stream = ChaCha20Rng::from_seed(self.seed);
-        stream.set_stream(u64::from(self.client));
-        stream.set_word_pos(u128::from(self.counter) * 4);
+        let stream = self.stream();
         self.counter += 1;
         Some(stream)
     }

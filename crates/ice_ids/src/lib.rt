@@ -12,7 +12,7 @@ pub mod laws;
 mod sets;
 
 use base32::{number_of_bytes, number_of_text, write_bytes, write_letters};
-pub use drawing::{AnyIds, CountIds, Draw, Ids, StreamIds};
+pub use drawing::{AnyIds, CountIds, Draw, Ids, StreamIds, two_words, word_bytes};
 pub use sets::ObjectIds;
 
 /// The id of an object: a snapshot, a manifest, a transaction log or a chunk. Ids are ordered by

@@ -1,17 +1,14 @@
 //! Sources that keep their place.
 
 ghost use Rattle.std.specs.Prelude.{◌≡◌, IfSome, option_map};
-ghost use Rattle.ice_ids.specs.Drawing.{after8, after12, drawn8, drawn12, stream_after, stream_drawn8, stream_drawn12, stream_place};
+ghost use Rattle.ice_ids.specs.Drawing.{after8, after12, drawn8, drawn12, stream_after, stream_drawn8, stream_drawn12};
 ghost use Rattle.kept_ids.specs.Kept.{StandsAt};
 
-use crate::words::{node_id, object_id, placed};
+use crate::words::{node_id, object_id};
 use ice_ids::{AnyIds, Id8, Id12, Ids, StreamIds};
 use rand_chacha::ChaCha20Rng;
 use std::alloc::Global;
 use std::marker::Model;
-
-/// The most draws of a client from a stream.
-const MOST_STREAMED: u32 = 4_194_304;
 
 /// A generator in memory of its own, if it is kept.
 type Kept = Option<Box<ChaCha20Rng>>;
@@ -47,7 +44,7 @@ impl Model for KeptIds {
 fn begun(alloc: Global, ids: &StreamIds) -> Kept
     ensures { StandsAt ids.now (option_map (λ b. b.value) result) }
 {
-    match Box::new(alloc, placed(ids)) {
+    match Box::new(alloc, ids.stream()) {
         Ok(stream) => Some(stream),
         Err(failed) => {
             drop(failed);
@@ -75,7 +72,7 @@ fn next_object(alloc: Global, ids: &mut StreamIds, kept: &mut Kept) -> Option<Id
     ensures after { ids.new ≡ stream_after ids.old }
     ensures stands { StandsAt ids.new (option_map (λ b. b.value) kept.new) }
 {
-    if ids.counter >= MOST_STREAMED {
+    if ids.is_dry() {
         return None;
     }
     let Some(mut stream) = taken(alloc, &*ids, kept.take()) else {
@@ -95,7 +92,7 @@ fn next_node(alloc: Global, ids: &mut StreamIds, kept: &mut Kept) -> Option<Id8>
     ensures after { ids.new ≡ stream_after ids.old }
     ensures stands { StandsAt ids.new (option_map (λ b. b.value) kept.new) }
 {
-    if ids.counter >= MOST_STREAMED {
+    if ids.is_dry() {
         return None;
     }
     let Some(mut stream) = taken(alloc, &*ids, kept.take()) else {

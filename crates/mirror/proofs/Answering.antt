@@ -1,14 +1,17 @@
 -- What a mirror has left behind a reply, by what the reply tells.
 use Rattle.std.proofs.Common.{◌≡◌, ◌⊎◌, ℕ, inl, inr, Bool, true, false, List, [], ◌∷◌, refl, sym, ◌∙◌, ap, subst}
-use Rattle.std.specs.Prelude.{Result, Ok, Err}
+use Rattle.std.specs.Prelude.{Result, Ok, Err, is_ok}
 use Rattle.object_store.specs.declared.events.Op.{Op}
 use Rattle.object_store.specs.declared.events.Reply.{Reply}
 use Rattle.object_store.specs.declared.events.Reply.TheVariants as R
 use Rattle.store_api.specs.declared.machines.Refusal.{Refusal}
 use Rattle.store_api.specs.declared.machines.Refusal.TheVariants.{NoMemory}
+use Rattle.store_api.specs.Callers.{has_failed}
 use Rattle.store_api.specs.Program.{is_no_memory}
+use Rattle.repo_read.specs.Answers.{AnswersOutright}
+use Rattle.repo_read.proofs.Hearing.{without_bytes}
 use Rattle.two_stores.specs.declared.side.Side.{Side}
-use Rattle.two_stores.specs.Pairs.{Done, IsAsk, Asks, Awaits, Took, Comes, is_ref, moves_ref}
+use Rattle.two_stores.specs.Pairs.{Done, IsAsk, Asks, Awaits, Took, Comes, is_ref, moves_ref, is_told_surely}
 use Rattle.mirror_reports.specs.declared.outcome.RefId.{RefId}
 use Rattle.mirror_reports.specs.declared.outcome.MirrorRef.{MirrorRef}
 use Rattle.mirror.specs.declared.register.Phase.{Phase}
@@ -18,12 +21,12 @@ use Rattle.mirror.specs.declared.mirror.Object.TheVariants as object
 use Rattle.mirror.specs.Programs.{Work, Answer, ends, refused, on_told, asks, copy_refs}
 use Rattle.mirror.specs.inside.Working.{Lands, EndsOutright, on_first, behind_refs, object_key}
 
--- whether a failed operation was done tells nothing
+-- a failed operation is refused, and whether it was done tells nothing
 abbrev pub IsBlind : {A : Type 0} → (Reply → Result A Refusal) → Type 0
-IsBlind told = (a b : Bool) → told (R.Failed a) ≡ told (R.Failed b)
+IsBlind told = (a b : Bool) → (told (R.Failed a) ≡ told (R.Failed b)) × (is_ok (told (R.Failed a)) ≡ false)
 
-pub took-so : {A : Type 0} (w : Work) (side : Side) (op : Op) (told : Reply → Result A Refusal) (next : A → Answer) (reply : Reply) (q : Answer) → IsBlind told → Comes op (ends w (Err NoMemory)) (on_told w next (told reply)) q → Took (asks w side op told next) reply q
-took-so {A} w side op told next (R.Failed done) q blind c = λ other. subst (λ (r : Result A Refusal). Comes op (ends w (Err NoMemory)) (on_told w next r) q) (blind done other) c
+pub took-so : {A : Type 0} (w : Work) (side : Side) (op : Op) (told : Reply → Result A Refusal) (next : A → Answer) (reply : Reply) (q : Answer) → IsBlind told → Comes op reply (ends w (Err NoMemory)) (on_told w next (told reply)) q → Took (asks w side op told next) reply q
+took-so {A} w side op told next (R.Failed done) q blind c = λ other. subst (λ (r : Result A Refusal). Comes op (R.Failed done) (ends w (Err NoMemory)) (on_told w next r) q) (blind done other).0 c
 took-so w side op told next (R.Got x) q blind c = c
 took-so w side op told next (R.New x) q blind c = c
 took-so w side op told next (R.Over x) q blind c = c
@@ -31,21 +34,34 @@ took-so w side op told next (R.Gone x) q blind c = c
 took-so w side op told next (R.GoneAt x) q blind c = c
 took-so w side op told next (R.Listed x) q blind c = c
 
+-- what told a value was no failed operation
+read : {A : Type 0} (told : Reply → Result A Refusal) → IsBlind told → (reply : Reply) (x : A) → told reply ≡ Ok x → has_failed reply ≡ false
+read told blind (R.Failed done) x e = let no = sym (ap (λ r. is_ok r) e) ∙ (blind done done).1 in absurd (cc)
+read told blind (R.Got y) x e = refl
+read told blind (R.New y) x e = refl
+read told blind (R.Over y) x e = refl
+read told blind (R.Gone y) x e = refl
+read told blind (R.GoneAt y) x e = refl
+read told blind (R.Listed y) x e = refl
+
+free : (op : Op) (reply : Reply) → moves_ref op ≡ false → has_failed reply ≡ false → is_told_surely op reply ≡ false
+free op reply still read = rw (still, read) refl
+
 -- it told this value, and what follows it is left, or memory was wanting
 pub went : {A : Type 0} (w : Work) (side : Side) (op : Op) (told : Reply → Result A Refusal) (next : A → Answer) (reply : Reply) (x : A) (q : Answer) → IsBlind told → moves_ref op ≡ false → told reply ≡ Ok x → Lands w.refs (next x) q → Took (asks w side op told next) reply q
-went {A} w side op told next reply x q blind still e l = took-so w side op told next reply q blind (subst (λ (r : Result A Refusal). Comes op (ends w (Err NoMemory)) (on_told w next r) q) (sym e) (lands l))
+went {A} w side op told next reply x q blind still e l = took-so w side op told next reply q blind (subst (λ (r : Result A Refusal). Comes op reply (ends w (Err NoMemory)) (on_told w next r) q) (sym e) (lands l))
   where
-    lands : Lands w.refs (next x) q → Comes op (ends w (Err NoMemory)) (next x) q
+    lands : Lands w.refs (next x) q → Comes op reply (ends w (Err NoMemory)) (next x) q
     lands (inl same) = inl same
-    lands (inr starved) = inr (still, starved)
+    lands (inr starved) = inr (free op reply still (read told blind reply x e), starved)
 
 -- ... of a put of a ref, behind which nothing is lost
 pub went-surely : {A : Type 0} (w : Work) (side : Side) (op : Op) (told : Reply → Result A Refusal) (next : A → Answer) (reply : Reply) (x : A) (q : Answer) → IsBlind told → told reply ≡ Ok x → q ≡ next x → Took (asks w side op told next) reply q
-went-surely {A} w side op told next reply x q blind e same = took-so w side op told next reply q blind (subst (λ (r : Result A Refusal). Comes op (ends w (Err NoMemory)) (on_told w next r) q) (sym e) (inl same))
+went-surely {A} w side op told next reply x q blind e same = took-so w side op told next reply q blind (subst (λ (r : Result A Refusal). Comes op reply (ends w (Err NoMemory)) (on_told w next r) q) (sym e) (inl same))
 
 -- it told why it is refused
 pub was-refused : {A : Type 0} (w : Work) (side : Side) (op : Op) (told : Reply → Result A Refusal) (next : A → Answer) (reply : Reply) (reason : Refusal) (q : Answer) → IsBlind told → told reply ≡ Err reason → q ≡ refused w reason → Took (asks w side op told next) reply q
-was-refused {A} w side op told next reply reason q blind e same = took-so w side op told next reply q blind (subst (λ (r : Result A Refusal). Comes op (ends w (Err NoMemory)) (on_told w next r) q) (sym e) (inl same))
+was-refused {A} w side op told next reply reason q blind e same = took-so w side op told next reply q blind (subst (λ (r : Result A Refusal). Comes op reply (ends w (Err NoMemory)) (on_told w next r) q) (sym e) (inl same))
 
 -- ... and so it ends outright
 pub ends-so : {A : Type 0} (w : Work) (told : Result A Refusal) (reason : Refusal) (q : Answer) → told ≡ Err reason → q ≡ refused w reason → EndsOutright w told q
@@ -72,12 +88,13 @@ no-memory-is NoMemory e = refl
 no-memory-is _ e = absurd (cc)
 
 -- it told why it is refused, or memory was wanting
-pub was-refused-so : {A : Type 0} (w : Work) (side : Side) (op : Op) (told : Reply → Result A Refusal) (next : A → Answer) (reply : Reply) (reason : Refusal) (q : Answer) → IsBlind told → moves_ref op ≡ false → (is_no_memory reason ≡ false → told reply ≡ Err reason) → q ≡ refused w reason → Took (asks w side op told next) reply q
-was-refused-so w side op told next reply reason q blind still t same = by_memory (is_no_memory reason) refl
+pub was-refused-so : {A : Type 0} (w : Work) (side : Side) (op : Op) (told : Reply → Result A Refusal) (next : A → Answer) (reply : Reply) (reason : Refusal) (q : Answer) → IsBlind told → moves_ref op ≡ false → (is_no_memory reason ≡ false → told reply ≡ Err reason) → AnswersOutright reply (told reply) (Err reason) → q ≡ refused w reason → Took (asks w side op told next) reply q
+was-refused-so w side op told next reply reason q blind still t o same = by_memory (is_no_memory reason) refl (has_failed reply) refl
   where
-    by_memory : (b : Bool) → is_no_memory reason ≡ b → Took (asks w side op told next) reply q
-    by_memory false e = was-refused w side op told next reply reason q blind (t e) same
-    by_memory true e = took-so w side op told next reply q blind (inr (still, same ∙ ap (λ (r : Refusal). refused w r) (no-memory-is reason e)))
+    by_memory : (b : Bool) → is_no_memory reason ≡ b → (failed : Bool) → has_failed reply ≡ failed → Took (asks w side op told next) reply q
+    by_memory false e failed f = was-refused w side op told next reply reason q blind (t e) same
+    by_memory true e true f = was-refused w side op told next reply reason q blind (sym (o (without_bytes reply f))) same
+    by_memory true e false f = took-so w side op told next reply q blind (inr (free op reply still f, same ∙ ap (λ (r : Refusal). refused w r) (no-memory-is reason e)))
 
 -- where it was refused so, or for want of memory, that is what is left
 pub refused-so : {A : Type 0} (w : Work) (next : A → Answer) (result : Result A Refusal) (reason : Refusal) → (is_no_memory reason ≡ false → result ≡ Err reason) → Lands w.refs (on_told w next result) (refused w reason)

@@ -1,7 +1,7 @@
 //! What replies to the operations of a mirror tell.
 
 ghost use Rattle.std.specs.Prelude.{◌≡◌, IfErr};
-ghost use Rattle.repo_read.specs.Answers.{Answers};
+ghost use Rattle.repo_read.specs.Answers.{Answers, AnswersOutright};
 ghost use Rattle.mirror_reports.specs.Told.{key_of, fault_of, listed_told, bytes_told, ref_told, buried_told, put_told, made_told, moved_told};
 
 use crate::outcome::RefId;
@@ -49,15 +49,16 @@ pub fn bytes_told(side: Side, key: Key, reply: Reply) -> Result<Bytes, Refusal>
     }
 }
 
-/// The snapshot that a ref names and the version at which it does, if the ref is there. Refusals: `BadFile`, `NoMemory`, or the failure of
-/// the side's store.
+/// The snapshot that a ref names and the version at which it does, if the ref is there. Refusals: `BadFile`, the failure of the side's
+/// store, or, where there are bytes, `NoMemory`.
 pub fn ref_told(
     alloc: Global,
     side: Side,
     id: &RefId,
     reply: Reply,
 ) -> Result<Option<Resolved>, Refusal>
-    ensures { Answers (ref_told side (key_of id.now) reply) result }
+    ensures told { Answers (ref_told side (key_of id.now) reply) result }
+    ensures outright { AnswersOutright reply (ref_told side (key_of id.now) reply) result }
 {
     let Reply::Got(got) = reply else {
         return Err(fault_of(side));

@@ -1,6 +1,7 @@
 //! Listings of the directory.
 
-ghost use Rattle.std.specs.Prelude.{◌≡◌, ◌++◌, Option, None, Some, Ok, IfOk, IfErr, IfSome, OnOk, IsTrue, MatchOption, map, codes, string_bytes};
+ghost use Rattle.std.specs.Prelude.{◌≡◌, ◌++◌, Option, None, Some, Ok, Err, IfOk, IfErr, IfSome, OnOk, IsTrue, MatchOption, map, codes, string_bytes};
+ghost use Rattle.folder.specs.declared.faults.FileFault.TheVariants as FileFault;
 ghost use Rattle.folder.specs.Files.{StoredFile, IsFileSeen, TellsNames, HoldsNone};
 ghost use Rattle.object_store.specs.Machine.{part_of};
 ghost use Rattle.object_files.specs.Listings.{IsFaultIn, IsListed};
@@ -41,6 +42,8 @@ impl From<FileFault> for ListFault {
 fn located<T>(path: String, done: Result<T, Trouble>) -> Result<T, ListFault>
     ensures done { IfOk result (λ value. done ≡ Ok value) }
     ensures path { IfErr result (λ fault. fault.path ≡ Some path) }
+    ensures told { IfErr done (λ trouble. result
+        ≡ Err (record { fault = FileFault.Failed trouble; path = Some path })) }
 {
     match done {
         Ok(value) => Ok(value),

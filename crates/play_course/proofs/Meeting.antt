@@ -17,7 +17,7 @@ use Rattle.store_api.specs.declared.machines.Refusal.{Refusal}
 use Rattle.store_api.specs.declared.machines.Refusal.TheVariants.{NoMemory}
 use Rattle.object_store.specs.Machine.{Stored, found, version_at, got_of, new_of, IsHonest, UnlessFailed}
 use Rattle.store_api.specs.Journal.{Each, IsGood}
-use Rattle.store_api.specs.Program.{Prog, Done, Ask, bind, Path, moves_branch, events_of}
+use Rattle.store_api.specs.Program.{Prog, Done, Ask, bind, Path, is_told_surely, events_of}
 use Rattle.store_api.specs.Plays.{Play, Ended, Ask as Ask_play, Or, call, behind, ended_as}
 use Rattle.object_store.proofs.Journals.{Each-none}
 use Rattle.store_api.specs.Running.{Program, ◌>>=◌, on_answer}
@@ -198,10 +198,10 @@ module _ {A : Type 0} (Q : A → Type 0) (watch : Watch) where
         plays-meets client (next f.event.reply) ((old ++ f.more) ++ f.event ∷ []) f.later a f.watched s.2 (m.1 f.more f.event f.others f.own s.0)
   ]
 
-  behind-meets : (op : Op) (p s : Play A) (journal : List Event) (over : Bool) → moves_branch op ≡ over → PlayMeets Q watch p journal → PlayMeets Q watch s journal → PlayMeets Q watch (behind op p s) journal
+  behind-meets : (op : Op) (reply : Reply) (p s : Play A) (journal : List Event) (surely : Bool) → is_told_surely op reply ≡ surely → PlayMeets Q watch p journal → PlayMeets Q watch s journal → PlayMeets Q watch (behind op reply p s) journal
   unfolding PlayMeets
-  behind-meets op p s journal true e m n = rw e m
-  behind-meets op p s journal false e m n = rw e (m, n)
+  behind-meets op reply p s journal true e m n = rw e m
+  behind-meets op reply p s journal false e m n = rw e (m, n)
 
   -- a call, and then what follows its answer
   pub call-meets : {B : Type 0} (R : Result B Refusal → List Event → Type 0) (p : Program B) (f : Result B Refusal → Play A) (journal : List Event) → Meets R watch p journal
@@ -211,7 +211,7 @@ module _ {A : Type 0} (Q : A → Type 0) (watch : Watch) where
   call-meets R (Ask op next) f journal m g n = (
     n journal,
     λ more event others any is.
-        behind-meets op (call (next event.reply) f) (f (Err NoMemory)) ((journal ++ more) ++ event ∷ []) (moves_branch op) refl (call-meets R (next event.reply) f ((journal ++ more) ++ event ∷ []) (m more event others any is) g n) (n ((journal ++ more) ++ event ∷ [])),
+        behind-meets op event.reply (call (next event.reply) f) (f (Err NoMemory)) ((journal ++ more) ++ event ∷ []) (is_told_surely op event.reply) refl (call-meets R (next event.reply) f ((journal ++ more) ++ event ∷ []) (m more event others any is) g n) (n ((journal ++ more) ++ event ∷ [])),
   )
 
 -- ---- replies

@@ -16,10 +16,13 @@ settled f q (Ok Again) = call q f
 settled f q (Ok (Ready a)) = f (Ok a)
 settled f q (Err refusal) = f (Err refusal)
 
--- where a worker stands behind a machine that only reads: want of memory may come behind its answer
+-- where a worker stands behind a machine that only reads: want of memory may come behind what
+-- it has read, and behind no refusal
 abbrev pub ComesOrStarves : {A : Type 0} → (Result A Refusal → Play Outcome)
     → Prog (Result A Refusal) → Result (Next A) Refusal → Play Outcome → Type 0
-ComesOrStarves f q answer p = Comes (settled f q answer) p ⊎ Comes (f (Err NoMemory)) p
+ComesOrStarves f q (Ok Again) p = Comes (call q f) p
+ComesOrStarves f q (Ok (Ready a)) p = Comes (f (Ok a)) p ⊎ Comes (f (Err NoMemory)) p
+ComesOrStarves f q (Err refusal) p = Comes (f (Err refusal)) p
 
 -- a machine that answered `Again` has something to do
 abbrev pub answers_well : {T : Type 0} → Bool → Result (Next T) Refusal → Bool

@@ -143,7 +143,7 @@ keyed (Err why) = Err why
 called-keyed : (p : Program Value) (f : Result KeyValue Refusal → Play Outcome) → call (p >>= answered) f ≡ call p (λ r. f (keyed r))
 called-keyed (Done (Ok value)) f = refl
 called-keyed (Done (Err why)) f = refl
-called-keyed (Ask op next) f = λ i. Ask_play op (f (Err R.NoMemory)) (λ reply. behind op (called-keyed (next reply) f i) (f (Err R.NoMemory)))
+called-keyed (Ask op next) f = λ i. Ask_play op (f (Err R.NoMemory)) (λ reply. behind op reply (called-keyed (next reply) f i) (f (Err R.NoMemory)))
 
 -- what follows what the key has
 abbrev after_key : ℕ → List Shown → SessionState → Rest → Result KeyValue Refusal → Play Outcome

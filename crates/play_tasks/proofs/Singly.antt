@@ -9,7 +9,7 @@ use Rattle.object_store.specs.declared.events.Reply.{Reply}
 use Rattle.object_store.specs.declared.events.Event.{Event}
 use Rattle.store_api.specs.declared.machines.Refusal.{Refusal}
 use Rattle.store_api.specs.declared.machines.Refusal.TheVariants.{NoMemory}
-use Rattle.store_api.specs.Program.{Prog, Done, Ask as Ask_next, bind, moves_branch}
+use Rattle.store_api.specs.Program.{Prog, Done, Ask as Ask_next, bind, is_told_surely}
 use Rattle.store_api.specs.Running.{Program}
 use Rattle.store_api.specs.Plays.{Play, Ended, Ask, Or, behind, call, ended_as}
 use Rattle.store_api.specs.Telling.{IsGet}
@@ -70,15 +70,15 @@ once-path (Or p q) events a o (inl w) = once-path p events a o.0 w
 once-path (Or p q) events a o (inr w) = once-path q events a o.1 w
 
 -- ---- calls
-behind-gets : {A : Type 0} (op : Op) (p s : Play A) (over : Bool) → moves_branch op ≡ over → OnlyGets p → OnlyGets s → OnlyGets (behind op p s)
+behind-gets : {A : Type 0} (op : Op) (reply : Reply) (p s : Play A) (surely : Bool) → is_told_surely op reply ≡ surely → OnlyGets p → OnlyGets s → OnlyGets (behind op reply p s)
 unfolding OnlyGets
-behind-gets op p s true e g h = rw e g
-behind-gets op p s false e g h = rw e (g, h)
+behind-gets op reply p s true e g h = rw e g
+behind-gets op reply p s false e g h = rw e (g, h)
 
-behind-once : {A : Type 0} (op : Op) (p s : Play A) (over : Bool) → moves_branch op ≡ over → Once p → Once s → Once (behind op p s)
+behind-once : {A : Type 0} (op : Op) (reply : Reply) (p s : Play A) (surely : Bool) → is_told_surely op reply ≡ surely → Once p → Once s → Once (behind op reply p s)
 unfolding Once
-behind-once op p s true e g h = rw e g
-behind-once op p s false e g h = rw e (g, h)
+behind-once op reply p s true e g h = rw e g
+behind-once op reply p s false e g h = rw e (g, h)
 
 pub weaker-within : {A : Type 0} (may might : Op → Type 0) → ((op : Op) → may op → might op) → (Q R : A → Type 0) → ((a : A) → Q a → R a) → (p : Prog A) → Within may Q p → Within might R p
 unfolding Within
@@ -89,24 +89,24 @@ weaker-within may might f Q R g (Ask_next op k) w = (f op w.0, λ reply. weaker-
 pub call-gets : {A B : Type 0} (Q : Result A Refusal → Type 0) (p : Program A) (f : Result A Refusal → Play B) → Within IsGet Q p → ((r : Result A Refusal) → OnlyGets (f r)) → OnlyGets (call p f)
 unfolding Within OnlyGets
 call-gets Q (Done r) f w g = g r
-call-gets Q (Ask_next op k) f w g = (inl w.0, g (Err NoMemory), λ reply. behind-gets op (call (k reply) f) (f (Err NoMemory)) (moves_branch op) refl (call-gets Q (k reply) f (w.1 reply) g) (g (Err NoMemory)))
+call-gets Q (Ask_next op k) f w g = (inl w.0, g (Err NoMemory), λ reply. behind-gets op reply (call (k reply) f) (f (Err NoMemory)) (is_told_surely op reply) refl (call-gets Q (k reply) f (w.1 reply) g) (g (Err NoMemory)))
 
 -- of no commit
 pub call-once : {A B : Type 0} (Q : Result A Refusal → Type 0) (p : Program A) (f : Result A Refusal → Play B) → Within NoCommit Q p → ((r : Result A Refusal) → Q r → Once (f r)) → Once (f (Err NoMemory)) → Once (call p f)
 unfolding Within Once
 call-once Q (Done r) f w g n = g r w
-call-once Q (Ask_next op k) f w g n = (none-once op w.0, n, λ reply. behind-once op (call (k reply) f) (f (Err NoMemory)) (moves_branch op) refl (call-once Q (k reply) f (w.1 reply) g n) n)
+call-once Q (Ask_next op k) f w g n = (none-once op w.0, n, λ reply. behind-once op reply (call (k reply) f) (f (Err NoMemory)) (is_told_surely op reply) refl (call-once Q (k reply) f (w.1 reply) g n) n)
 
 -- ... and then of what follows
 pub bind-once : {A B C : Type 0} (Q : A → Type 0) (p : Prog A) (g : A → Program B) (f : Result B Refusal → Play C) → Within NoCommit Q p → ((a : A) → Q a → Once (call (g a) f)) → Once (f (Err NoMemory)) → Once (call (bind p g) f)
 unfolding Within Once
 bind-once Q (Done a) g f w o n = o a w
-bind-once Q (Ask_next op k) g f w o n = (none-once op w.0, n, λ reply. behind-once op (call (bind (k reply) g) f) (f (Err NoMemory)) (moves_branch op) refl (bind-once Q (k reply) g f (w.1 reply) o n) n)
+bind-once Q (Ask_next op k) g f w o n = (none-once op w.0, n, λ reply. behind-once op reply (call (bind (k reply) g) f) (f (Err NoMemory)) (is_told_surely op reply) refl (bind-once Q (k reply) g f (w.1 reply) o n) n)
 
 -- one operation first
 pub ask-once : {A B : Type 0} (op : Op) (k : Reply → Program A) (f : Result A Refusal → Play B) → NoCommit op → ((reply : Reply) → Once (call (k reply) f)) → Once (f (Err NoMemory)) → Once (call (Ask_next op k) f)
 unfolding Once
-ask-once op k f none o n = (none-once op none, n, λ reply. behind-once op (call (k reply) f) (f (Err NoMemory)) (moves_branch op) refl (o reply) n)
+ask-once op k f none o n = (none-once op none, n, λ reply. behind-once op reply (call (k reply) f) (f (Err NoMemory)) (is_told_surely op reply) refl (o reply) n)
 
 pub either-once : {A B : Type 0} (b : Bool) (p q : Program A) (f : Result A Refusal → Play B) → Once (call p f) → Once (call q f) → Once (call (cond b p q) f)
 either-once true p q f o r = o

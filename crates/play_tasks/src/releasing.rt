@@ -19,7 +19,13 @@ fn lease_in(shown: &Shown) -> Option<(u32, Id12)>
 {
     match shown {
         Shown::Lease { line, id, .. } => Some((*line, *id)),
-        _ => None,
+        Shown::Node { .. }
+        | Shown::Meta { .. }
+        | Shown::Chunk { .. }
+        | Shown::Fill { .. }
+        | Shown::Cells { .. }
+        | Shown::Key { .. }
+        | Shown::Log { .. } => None,
     }
 }
 

@@ -30,7 +30,7 @@ use Rattle.store_api.specs.Program.{Prog, Done, Ask, bind, IsAsk, IsDone, NextIs
 use Rattle.store_api.specs.Running.{Program, on_answer, ◌>>=◌}
 use Rattle.store_api.specs.Driving.{Asks, Awaits, Took}
 use Rattle.repo_read.specs.declared.answers.Resolved.{Resolved}
-use Rattle.repo_read.specs.Answers.{ref_told, snapshot_told, log_told, Answers}
+use Rattle.repo_read.specs.Answers.{ref_told, snapshot_told, log_told, Answers, AnswersOutright}
 use Rattle.repo_read.specs.Chains.{most_snapshots}
 use Rattle.repo_read.specs.Programs.{resolve_program}
 use Rattle.repo_read.proofs.Told.{ref-refused, ref-went, snapshot-refused, snapshot-went, log-refused, log-went}
@@ -99,12 +99,12 @@ module _ (base head : Id12) (k : CommitsSince → Program Rebased) where
 
   -- a refused reading refuses the walk
   pub walk-refused : (left : ℕ) (above : List SnapshotFile) (id : Id12) (reply : Reply) (why : Refusal) → Awaits (walk_down base head left above id >>= k) reply → Answers {A = SnapshotFile} (snapshot_told id reply) (Err why)
-      → (q : Program Rebased) → IsDone q → Took (walk_down base head left above id >>= k) reply q (Err why)
+      → AnswersOutright {A = SnapshotFile} reply (snapshot_told id reply) (Err why) → (q : Program Rebased) → IsDone q → Took (walk_down base head left above id >>= k) reply q (Err why)
   unfolding walk_down
-  walk-refused zero above id reply why w t q d = absurd w
-  walk-refused (suc left) above id reply why w t q d =
+  walk-refused zero above id reply why w t o q d = absurd w
+  walk-refused (suc left) above id reply why w t o q d =
       subst (λ (p : Program Rebased). Took p reply q (Err why)) (sym (past (Get (Snapshot id)) (snapshot_told id) (λ f. parent_behind base head left above f f.parent) k))
-      (snapshot-refused id reply (λ f. parent_behind base head left above f f.parent >>= k) w why t q d)
+      (snapshot-refused id reply (λ f. parent_behind base head left above f f.parent >>= k) w why t o q d)
 
   -- the walk goes on with what follows the snapshot that was read
   pub walk-went : (left : ℕ) (above : List SnapshotFile) (id : Id12) (reply : Reply) (f : SnapshotFile) → Awaits (walk_down base head left above id >>= k) reply → Answers (snapshot_told id reply) (Ok f)
@@ -136,11 +136,11 @@ module _ (policy : Policy) (held : Held Place) (before : FinMap path_cmp Node) (
 
   -- a refused reading refuses the rebase
   pub link-refused : (reply : Reply) (why : Refusal) → Awaits (solve_program policy held before (f ∷ fs) >>= k) reply → Answers {A = TxnFile} (log_told f.id reply) (Err why)
-      → (q : Program Rebased) → IsDone q → Took (solve_program policy held before (f ∷ fs) >>= k) reply q (Err why)
+      → AnswersOutright {A = TxnFile} reply (log_told f.id reply) (Err why) → (q : Program Rebased) → IsDone q → Took (solve_program policy held before (f ∷ fs) >>= k) reply q (Err why)
   unfolding solve_program
-  link-refused reply why w t q d =
+  link-refused reply why w t o q d =
       subst (λ (p : Program Rebased). Took p reply q (Err why)) (sym (past (Get (Txn f.id)) (log_told f.id) link-behind k))
-      (log-refused f.id reply (λ log. link-behind log >>= k) w why t q d)
+      (log-refused f.id reply (λ log. link-behind log >>= k) w why t o q d)
 
   -- it goes on with what follows the lists that were read
   pub link-went : (reply : Reply) (log : TxnFile) → Awaits (solve_program policy held before (f ∷ fs) >>= k) reply → Answers (log_told f.id reply) (Ok log)
@@ -195,12 +195,13 @@ begins policy s e = ap (λ b. cond b (resolve_program (branch_of s) >>= after_re
 -- ---- the branch
 module _ (policy : Policy) where
   pub state-ref-refused : (session : Option SessionState) (s : SessionState) (branch : List ℕ) (reply : Reply) (why : Refusal) → session ≡ Some s → branch ≡ branch_of s → Awaits (state-rest policy session state.Ref) reply
-      → Answers {A = Resolved} (ref_told branch reply) (Err why) → (q : Program Rebased) → IsDone q → Took (state-rest policy session state.Ref) reply q (Err why)
-  state-ref-refused None s branch reply why e b w t q d = absurd w
-  state-ref-refused (Some own) s branch reply why e b w t q d =
+      → Answers {A = Resolved} (ref_told branch reply) (Err why) → AnswersOutright {A = Resolved} reply (ref_told branch reply) (Err why) → (q : Program Rebased) → IsDone q → Took (state-rest policy session state.Ref) reply q (Err why)
+  state-ref-refused None s branch reply why e b w t o q d = absurd w
+  state-ref-refused (Some own) s branch reply why e b w t o q d =
       let same : own ≡ s = cc in
       let branch_is : branch ≡ branch_of own = b ∙ ap branch_of (sym same) in
-      ref-refused (branch_of own) reply (after_ref policy own) w why (subst (λ (x : List ℕ). Answers {A = Resolved} (ref_told x reply) (Err why)) branch_is t) q d
+      ref-refused (branch_of own) reply (after_ref policy own) w why (subst (λ (x : List ℕ). Answers {A = Resolved} (ref_told x reply) (Err why)) branch_is t)
+      (subst (λ (x : List ℕ). AnswersOutright {A = Resolved} reply (ref_told x reply) (Err why)) branch_is o) q d
 
   pub state-ref-went : (session : Option SessionState) (s : SessionState) (branch : List ℕ) (reply : Reply) (named : Resolved) → session ≡ Some s → branch ≡ branch_of s → Awaits (state-rest policy session state.Ref) reply
       → Answers (ref_told branch reply) (Ok named) → (q : Program Rebased) (result : Result (Next Rebased) Refusal) → Lands (with_session session (λ s. after_ref policy s named)) q result → IfErr result (λ refusal. is_fault refusal ≡ false)
@@ -233,9 +234,9 @@ module _ (policy : Policy) where
       omega arith
 
   pub state-walk-refused : (session : Option SessionState) (walk : Walk) (reply : Reply) (why : Refusal) → Awaits (state-rest policy session (state.Snapshot walk)) reply → Answers {A = SnapshotFile} (snapshot_told walk.next reply) (Err why)
-      → (q : Program Rebased) → IsDone q → Took (state-rest policy session (state.Snapshot walk)) reply q (Err why)
-  state-walk-refused None walk reply why w t q d = absurd w
-  state-walk-refused (Some s) walk reply why w t q d = walk-refused s.base walk.named.id (over_commits policy s walk.named) (most_snapshots - length walk.above) (reverse walk.above) walk.next reply why w t q d
+      → AnswersOutright {A = SnapshotFile} reply (snapshot_told walk.next reply) (Err why) → (q : Program Rebased) → IsDone q → Took (state-rest policy session (state.Snapshot walk)) reply q (Err why)
+  state-walk-refused None walk reply why w t o q d = absurd w
+  state-walk-refused (Some s) walk reply why w t o q d = walk-refused s.base walk.named.id (over_commits policy s walk.named) (most_snapshots - length walk.above) (reverse walk.above) walk.next reply why w t o q d
 
   pub state-walk-went : (session : Option SessionState) (walk : Walk) (reply : Reply) (f : SnapshotFile) → Awaits (state-rest policy session (state.Snapshot walk)) reply → Answers (snapshot_told walk.next reply) (Ok f)
       → (q : Program Rebased) (result : Result (Next Rebased) Refusal) → Lands (with_session session (λ s. walk_behind policy s walk f)) q result → IfErr result (λ refusal. is_fault refusal ≡ false)
@@ -299,11 +300,12 @@ module _ (policy : Policy) where
 
   -- ---- logs
   pub state-log-refused : (session : Option SessionState) (l : Solving) (f : SnapshotFile) (reply : Reply) (why : Refusal) → f ≡ l.oldest → Awaits (state-rest policy session (state.Log l)) reply
-      → Answers {A = TxnFile} (log_told f.id reply) (Err why) → (q : Program Rebased) → IsDone q → Took (state-rest policy session (state.Log l)) reply q (Err why)
-  state-log-refused None l f reply why o w t q d = absurd w
-  state-log-refused (Some s) l f reply why o w t q d =
+      → Answers {A = TxnFile} (log_told f.id reply) (Err why) → AnswersOutright {A = TxnFile} reply (log_told f.id reply) (Err why) → (q : Program Rebased) → IsDone q → Took (state-rest policy session (state.Log l)) reply q (Err why)
+  state-log-refused None l f reply why is w t o q d = absurd w
+  state-log-refused (Some s) l f reply why is w t o q d =
       link-refused policy (unwrap_or l.held s.held) (nodes_before s l.before) l.oldest (reverse l.later) (on_head s l.named l.count (head_of l.oldest (reverse l.later))) reply why w
-      (subst (λ (x : SnapshotFile). Answers {A = TxnFile} (log_told x.id reply) (Err why)) o t) q d
+      (subst (λ (x : SnapshotFile). Answers {A = TxnFile} (log_told x.id reply) (Err why)) is t)
+      (subst (λ (x : SnapshotFile). AnswersOutright {A = TxnFile} reply (log_told x.id reply) (Err why)) is o) q d
 
   pub state-log-went : (session : Option SessionState) (l : Solving) (f : SnapshotFile) (reply : Reply) (log : TxnFile) → f ≡ l.oldest → Awaits (state-rest policy session (state.Log l)) reply
       → Answers (log_told f.id reply) (Ok log) → (q : Program Rebased) (result : Result (Next Rebased) Refusal) → Lands (with_session session (λ s. lists_behind policy s l log.lists)) q result → IfErr result (λ refusal. is_fault refusal ≡ false)

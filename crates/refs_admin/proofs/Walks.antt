@@ -13,10 +13,10 @@ use Rattle.store_api.specs.declared.machines.Next.{Next}
 use Rattle.store_api.specs.declared.machines.Next.TheVariants.{Again, Ready}
 use Rattle.store_api.specs.declared.machines.Refusal.{Refusal}
 use Rattle.store_api.specs.declared.machines.Refusal.TheVariants as R
-use Rattle.store_api.specs.Program.{Done, Ask, bind, IsAsk, IsDone, NextIsPolite, Lands, is_fault, is_no_memory, moves_branch, IsSure}
+use Rattle.store_api.specs.Program.{Done, Ask, bind, IsAsk, IsDone, NextIsPolite, Lands, is_fault, is_no_memory, is_told_surely, IsSure}
 use Rattle.store_api.specs.Running.{Program, on_answer, ◌>>=◌}
 use Rattle.store_api.specs.Driving.{Asks, Awaits, Took, Heard}
-use Rattle.repo_read.specs.Answers.{snapshot_told, Answers}
+use Rattle.repo_read.specs.Answers.{snapshot_told, Answers, AnswersOutright}
 use Rattle.repo_read.proofs.Told.{snapshot-refused, snapshot-went}
 use Rattle.repo_read.specs.Chains.{walk, chain_program, most_snapshots}
 use Rattle.std.proofs.lemmas.List.{map-append}
@@ -63,10 +63,10 @@ walk-awaits (suc left) lines id reply a = omega arith
 
 -- a refused reading refuses the walk
 pub walk-refused : (left : ℕ) (lines : List LogLine) (id : Id12) (reply : Reply) (why : Refusal) → Awaits (log_walk left lines id) reply → Answers {A = SnapshotFile} (snapshot_told id reply) (Err why)
-    → (q : Program (List LogLine)) → IsDone q → Took (log_walk left lines id) reply q (Err why)
+    → AnswersOutright {A = SnapshotFile} reply (snapshot_told id reply) (Err why) → (q : Program (List LogLine)) → IsDone q → Took (log_walk left lines id) reply q (Err why)
 unfolding log_walk
-walk-refused zero lines id reply why a t q d = absurd a
-walk-refused (suc left) lines id reply why a t q d = snapshot-refused id reply (λ s. walk_behind left (lines ++ line_of s ∷ []) s.parent) a why t q d
+walk-refused zero lines id reply why a t o q d = absurd a
+walk-refused (suc left) lines id reply why a t o q d = snapshot-refused id reply (λ s. walk_behind left (lines ++ line_of s ∷ []) s.parent) a why t o q d
 
 -- the walk goes on with the parent of what was read
 pub walk-went : (left : ℕ) (lines : List LogLine) (id : Id12) (reply : Reply) (s : SnapshotFile) → Awaits (log_walk left lines id) reply → Answers (snapshot_told id reply) (Ok s)
@@ -132,7 +132,7 @@ module _ {T : Type 0} (f : Refusal → Refusal) where
   pub first-ok : (p q : Program T) (reply : Reply) (next : Next T) → Took p reply q (Ok next) → Took (refused_first f p) reply q (Ok next)
   first-ok (Done r) q reply next t = absurd t
   first-ok (Ask op k) q reply next t = (
-    heard-map (λ r. Lands (k r) q (Ok next) × (moves_branch op ≡ true → IsSure (k r) (Ok next))) (λ r. Lands (refused_now f (k r)) q (Ok next) × (moves_branch op ≡ true → IsSure (refused_now f (k r)) (Ok next)))
+    heard-map (λ r. Lands (k r) q (Ok next) × (is_told_surely op r ≡ true → IsSure (k r) (Ok next))) (λ r. Lands (refused_now f (k r)) q (Ok next) × (is_told_surely op r ≡ true → IsSure (refused_now f (k r)) (Ok next)))
         (λ r l. (lands-ok (k r) q next l.0, λ e. tt)) reply t.0,
     t.1,
   )
@@ -140,7 +140,7 @@ module _ {T : Type 0} (f : Refusal → Refusal) where
   pub first-err : (p q : Program T) (reply : Reply) (why : Refusal) → is_no_memory (f why) ≡ is_no_memory why → is_fault (f why) ≡ is_fault why → Took p reply q (Err why) → Took (refused_first f p) reply q (Err (f why))
   first-err (Done r) q reply why n g t = absurd t
   first-err (Ask op k) q reply why n g t = (
-    heard-map (λ r. Lands (k r) q (Err why) × (moves_branch op ≡ true → IsSure (k r) (Err why))) (λ r. Lands (refused_now f (k r)) q (Err (f why)) × (moves_branch op ≡ true → IsSure (refused_now f (k r)) (Err (f why))))
+    heard-map (λ r. Lands (k r) q (Err why) × (is_told_surely op r ≡ true → IsSure (k r) (Err why))) (λ r. Lands (refused_now f (k r)) q (Err (f why)) × (is_told_surely op r ≡ true → IsSure (refused_now f (k r)) (Err (f why))))
         (λ r l. ((l.0.0, λ e. ap (refused_now f) (l.0.1 (sym n ∙ e))), λ e. ap (refused_now f) (l.1 e))) reply t.0,
     λ e. g ∙ t.1 e,
   )

@@ -2,7 +2,7 @@
 
 ghost use Rattle.std.specs.Prelude.{◌≡◌, IfErr, IfOk};
 ghost use Rattle.ref_file.specs.Refs.{ref_bytes};
-ghost use Rattle.repo_read.specs.Answers.{Answers};
+ghost use Rattle.repo_read.specs.Answers.{Answers, AnswersOutright};
 ghost use Rattle.store_api.specs.Driving.{payload_bytes};
 ghost use Rattle.refs_admin.specs.Targets.{no_snapshot, target_told};
 ghost use Rattle.refs_admin.specs.Branches.{created, moved, dropped};
@@ -26,9 +26,10 @@ pub(crate) fn reference(alloc: Global, id: Id12) -> Result<Payload<'static>, All
 
 /// What a reply to the get of the snapshot tells that a ref is to name: nothing more, where it is there and readable. Refusals:
 /// `NoSnapshot` where it was absent, `BadFile` where its bytes are no snapshot of this id, `StoreFault` where the get failed,
-/// or `NoMemory`.
+/// or, where there are bytes, `NoMemory`.
 pub(crate) fn target_told(alloc: Global, id: Id12, reply: Reply) -> Result<Loaded, Refusal>
     ensures told { Answers (target_told id reply) result }
+    ensures outright { AnswersOutright reply (target_told id reply) result }
     ensures listed { IfErr result MayRefuseTarget }
 {
     match snapshot_told(alloc, id, reply) {

@@ -16,8 +16,9 @@ use Rattle.store_api.specs.declared.machines.Refusal.TheVariants.{NoMemory, Stor
 use Rattle.check_reports.specs.declared.faults.Checked.{Checked}
 use Rattle.store_api.specs.Journal.{IsPolite}
 use Rattle.store_api.specs.Callers.{View, Called, Fits, has_failed}
-use Rattle.store_api.specs.Plays.{Play, Ended, Ask, Or, Comes, Acts, IsLive, dooms}
-use Rattle.store_api.proofs.Programs.{made-done, Waits-none}
+use Rattle.store_api.specs.Program.{moves_branch, is_told_surely}
+use Rattle.store_api.specs.Plays.{Play, Ended, Ask, Or, behind, Comes, Acts, IsLive, dooms}
+use Rattle.store_api.proofs.Programs.{made-done, told-failed, Waits-none}
 use Rattle.repo_check.specs.declared.standing.CheckReport.{CheckReport}
 use Rattle.repo_check.specs.declared.standing.Checking.{Checking}
 use Rattle.repo_check.specs.declared.standing.Checking.TheVariants as state
@@ -83,23 +84,41 @@ polite-op (state.File f place) v t = tt
 polite-op (state.Part p parts place) v t = tt
 polite-op (state.Ended result) v t = tt
 
-pub checked-acts : (s : Checking) (c : Course) (q : Answer) (old new : View) → is_live s ≡ true → (answer : Result Reply StoreFault) → Called (λ reply. reply) (checking_op s) answer old new → IfOk answer (Fits (checking_op s)) → Comes (answered_rest s c answer) q → (IfOk answer (λ reply. Calm q))
+reads-op : (s : Checking) → moves_branch (checking_op s) ≡ false
+reads-op state.Branches = refl
+reads-op (state.Branch key) = refl
+reads-op state.Tags = refl
+reads-op (state.Tag key) = refl
+reads-op (state.Snapshot id) = refl
+reads-op (state.Log id place) = refl
+reads-op (state.File f place) = refl
+reads-op (state.Part p parts place) = refl
+reads-op (state.Ended result) = refl
+
+-- where it comes behind an answer, and behind a failure
+behind-answer : (s : Checking) (reply : Reply) (p r q : Answer) → has_failed reply ≡ false → Comes (Or p r) q → Comes (behind (checking_op s) reply p r) q
+behind-answer s reply p r q f c = let free : is_told_surely (checking_op s) reply ≡ false = told-failed (checking_op s) reply (reads-op s) ∙ f in rw free c
+
+behind-failure : (s : Checking) (done : Bool) (p r q : Answer) → Comes p q → Comes (behind (checking_op s) (Reply_failed done) p r) q
+behind-failure s done p r q c = let surely : is_told_surely (checking_op s) (Reply_failed done) ≡ true = told-failed (checking_op s) (Reply_failed done) (reads-op s) in rw surely c
+
+pub checked-acts : (s : Checking) (c : Course) (q : Answer) (old new : View) → is_live s ≡ true → (answer : Result Reply StoreFault) → Called (λ reply. reply) (checking_op s) answer old new → IfOk answer (Fits (checking_op s)) → IfOk answer (λ reply. has_failed reply ≡ false) → Comes (answered_rest s c answer) q → (IfOk answer (λ reply. Calm q))
     → Acts tells_failure old new (checking_rest s c) q
-checked-acts s c q old new live (Ok reply) called fits comes calm = record {
+checked-acts s c q old new live (Ok reply) called fits answered comes calm = record {
   same = called.same;
   blames = (called.counted, λ doomed. absurd (calm doomed));
   went = inl (record {
     op = checking_op s;
     starved = starved c.work;
-    next = λ r. Or (heard_in s c r) (starved c.work);
+    next = λ r. behind (checking_op s) r (heard_in s c r) (starved c.work);
     reply = reply;
     asks = live-rest s c live;
     fits = fits;
     made = called.did;
-    comes = comes;
+    comes = behind-answer s reply (heard_in s c reply) (starved c.work) q answered comes;
   });
 }
-checked-acts s c q old new live (Err Failed) called fits comes calm =
+checked-acts s c q old new live (Err Failed) called fits answered comes calm =
     let made = made-done (λ (reply : Reply). reply) old.caller (checking_op s) old.seen new.seen old.caller.tells called.did in
     record {
       same = called.same;
@@ -107,12 +126,12 @@ checked-acts s c q old new live (Err Failed) called fits comes calm =
       went = inl (record {
         op = checking_op s;
         starved = starved c.work;
-        next = λ r. Or (heard_in s c r) (starved c.work);
+        next = λ r. behind (checking_op s) r (heard_in s c r) (starved c.work);
         reply = Reply_failed made.0;
         asks = live-rest s c live;
         fits = fits-failed s made.0;
         made = made.1;
-        comes = inl (subst (λ (p : Answer). Comes p q) (sym (fails-so s c made.0 live)) comes);
+        comes = behind-failure s made.0 (heard_in s c (Reply_failed made.0)) (starved c.work) q (subst (λ (p : Answer). Comes p q) (sym (fails-so s c made.0 live)) comes);
       });
     }
   where
@@ -126,13 +145,13 @@ checked-acts s c q old new live (Err Failed) called fits comes calm =
     fits-failed (state.File f place) done = tt
     fits-failed (state.Part p parts place) done = tt
     fits-failed (state.Ended result) done = tt
-checked-acts s c q old new live (Err No_room) called fits comes calm = record {
+checked-acts s c q old new live (Err No_room) called fits answered comes calm = record {
   same = called.same;
   blames = (called.counted, λ doomed. absurd (starves q comes doomed));
   went = inr (record {
     op = checking_op s;
     starved = starved c.work;
-    next = λ r. Or (heard_in s c r) (starved c.work);
+    next = λ r. behind (checking_op s) r (heard_in s c r) (starved c.work);
     asks = live-rest s c live;
     waits = called.did;
     comes = comes;

@@ -23,7 +23,7 @@ use Rattle.check_reports.specs.declared.faults.Checked.{Checked}
 use Rattle.store_api.specs.declared.machines.Refusal.{Refusal}
 use Rattle.store_api.specs.declared.machines.Refusal.TheVariants.{NoMemory, StoreFault, TooDeep}
 use Rattle.store_api.specs.Callers.{Fits, has_failed}
-use Rattle.store_api.specs.Plays.{Play, Ended, Ask, Or}
+use Rattle.store_api.specs.Plays.{Play, Ended, Ask, Or, behind}
 use Rattle.repo_read.specs.Chains.{most_snapshots}
 use Rattle.live_refs.specs.Live.{live}
 use Rattle.intact.specs.declared.visits.FileVisit.{FileVisit}
@@ -110,9 +110,9 @@ module _ (f : List Finding) (m : List Made) (d : List Deed) (w : Work) (pending 
       deed : Reply → Deed
       deed reply = record { op = Get key; reply = reply }
 
-      by : (reply : Reply) → Goes (d ++ record { op = Get key; reply = reply } ∷ []) (Or (on_got w next reply) (starved w))
+      by : (reply : Reply) → Goes (d ++ record { op = Get key; reply = reply } ∷ []) (behind (Get key) reply (on_got w next reply) (starved w))
       by (Is_got x) = (goes x, starves-behind (deed (Is_got x)))
-      by (Failed x) = (fails (record { op = Get key; reply = Failed x }) (λ h. refl), starves-behind (record { op = Get key; reply = Failed x }))
+      by (Failed x) = fails (record { op = Get key; reply = Failed x }) (λ h. refl)
       by (Is_new x) = (fails (record { op = Get key; reply = Is_new x }) (λ h. absurd h), starves-behind (record { op = Get key; reply = Is_new x }))
       by (Is_over x) = (fails (record { op = Get key; reply = Is_over x }) (λ h. absurd h), starves-behind (record { op = Get key; reply = Is_over x }))
       by (Is_gone x) = (fails (record { op = Get key; reply = Is_gone x }) (λ h. absurd h), starves-behind (record { op = Get key; reply = Is_gone x }))
@@ -123,9 +123,9 @@ module _ (f : List Finding) (m : List Made) (d : List Deed) (w : Work) (pending 
   unfolding Goes
   goes-list part next goes = (tt, starves-now, by)
     where
-      by : (reply : Reply) → Goes (d ++ record { op = ListPart part; reply = reply } ∷ []) (Or (on_listed w next reply) (starved w))
+      by : (reply : Reply) → Goes (d ++ record { op = ListPart part; reply = reply } ∷ []) (behind (ListPart part) reply (on_listed w next reply) (starved w))
       by (Is_listed x) = (goes x, starves-behind (record { op = ListPart part; reply = Is_listed x }))
-      by (Failed x) = (fails (record { op = ListPart part; reply = Failed x }) (λ h. refl), starves-behind (record { op = ListPart part; reply = Failed x }))
+      by (Failed x) = fails (record { op = ListPart part; reply = Failed x }) (λ h. refl)
       by (Is_got x) = (fails (record { op = ListPart part; reply = Is_got x }) (λ h. absurd h), starves-behind (record { op = ListPart part; reply = Is_got x }))
       by (Is_new x) = (fails (record { op = ListPart part; reply = Is_new x }) (λ h. absurd h), starves-behind (record { op = ListPart part; reply = Is_new x }))
       by (Is_over x) = (fails (record { op = ListPart part; reply = Is_over x }) (λ h. absurd h), starves-behind (record { op = ListPart part; reply = Is_over x }))

@@ -18,7 +18,7 @@ use Rattle.object_store.specs.declared.events.Reply.TheVariants.{Got as Is_got, 
 use Rattle.store_api.specs.declared.machines.Refusal.{Refusal}
 use Rattle.store_api.specs.declared.machines.Refusal.TheVariants.{TooDeep, StoreFault, NoMemory}
 use Rattle.store_api.specs.Program.{is_fault}
-use Rattle.store_api.specs.Plays.{Play, Ended, Ask, Or}
+use Rattle.store_api.specs.Plays.{Play, Ended, Ask, Or, behind}
 use Rattle.repo_read.specs.Chains.{most_snapshots}
 use Rattle.live_refs.specs.Live.{live}
 use Rattle.check_reports.specs.declared.faults.FaultKind.{FaultKind}
@@ -51,9 +51,9 @@ ends_with w result = Ended (record { faults = w.faults; result = result })
 abbrev pub starved : Work → Answer
 starved w = ends_with w (Err NoMemory)
 
--- one operation; memory may be wanting for it and for its reply
+-- one operation; memory may be wanting for it and for its reply, but not where it failed
 abbrev pub asks : Op → Work → (Reply → Answer) → Answer
-asks op w next = Ask op (starved w) (λ reply. Or (next reply) (starved w))
+asks op w next = Ask op (starved w) (λ reply. behind op reply (next reply) (starved w))
 
 abbrev pub on_got : Work → (Got → Answer) → Reply → Answer
 on_got w next (Is_got got) = next got

@@ -16,61 +16,36 @@ use Rattle.store_api.specs.declared.machines.Next.{Next}
 use Rattle.store_api.specs.declared.machines.Refusal.{Refusal}
 use Rattle.store_api.specs.declared.machines.Refusal.TheVariants.{NoRef, Missing, BadFile, StoreFault}
 use Rattle.store_api.specs.Callers.{Fits}
-use Rattle.store_api.specs.Program.{Ask, IsDone, Lands, IsSure, is_fault, is_no_memory}
+use Rattle.store_api.specs.Program.{Ask, IsDone, Lands, is_fault}
 use Rattle.store_api.specs.Running.{Program, on_answer, ◌>>=◌}
-use Rattle.store_api.specs.Driving.{Heard, Took, has_failed}
+use Rattle.store_api.specs.Driving.{Took, has_failed}
 use Rattle.repo_read.specs.declared.answers.Resolved.{Resolved}
-use Rattle.repo_read.specs.Answers.{at_key, resolved_at, ref_told, snapshot_told, log_told, Answers}
+use Rattle.repo_read.specs.Answers.{at_key, resolved_at, ref_told, snapshot_told, log_told, Answers, AnswersOutright}
 use Rattle.repo_read.specs.Programs.{resolve_program, snapshot_program, log_program}
-use Rattle.repo_read.proofs.Hearing.{fault-has-memory, no-fault, excused}
+use Rattle.repo_read.proofs.Hearing.{no-fault, IsTelling}
+use Rattle.repo_read.proofs.Hearing as H
 
 -- ---- a get of a key that tells so: a fault exactly where it failed
 module _ {A B : Type 0} (key : Key) (told : Reply → Result A Refusal) (f : A → Program B) (fails : (done : Bool) → told (Failed done) ≡ Err StoreFault) (tells : (got : TheGot) (why : Refusal) → told (Got got) ≡ Err why → is_fault why ≡ false) where
-  -- a fault is told only where the get failed
-  faultless : (b : Bool) (reply : Reply) (why : Refusal) → is_fault why ≡ b → Fits (Get key) reply → Answers (told reply) (Err why) → has_failed reply ≡ false → is_fault why ≡ false
-  faultless false reply why e w t n = e
-  faultless true reply why e w t n = absurd (by_reply reply w (t (fault-has-memory why e)) n)
+  telling : IsTelling (Get key) told
+  telling = record { calm = refl; fails = fails; sound = sound }
     where
-      by_reply : (reply : Reply) → Fits (Get key) reply → told reply ≡ Err why → has_failed reply ≡ false → ⊥
-      by_reply (Got got) w t n = let no = tells got why t in absurd cc
-      by_reply (Failed done) w t n = cc
-      by_reply (New new) w t n = w
-      by_reply (Over over) w t n = w
-      by_reply (Gone gone) w t n = w
-      by_reply (GoneAt gone) w t n = w
-      by_reply (Listed listed) w t n = w
+      sound : (reply : Reply) (why : Refusal) → Fits (Get key) reply → has_failed reply ≡ false → told reply ≡ Err why → is_fault why ≡ false
+      sound (Got got) why w n t = tells got why t
+      sound (Failed done) why w n t = absurd (cc)
+      sound (New new) why w n t = absurd w
+      sound (Over over) why w n t = absurd w
+      sound (Gone gone) why w n t = absurd w
+      sound (GoneAt gone) why w n t = absurd w
+      sound (Listed listed) why w n t = absurd w
 
   -- where it tells no value, that ends the program
-  refused : (reply : Reply) (why : Refusal) → Fits (Get key) reply → Answers (told reply) (Err why) → (q : Program B) → IsDone q → Took (Ask (Get key) (λ r. on_answer f (told r))) reply q (Err why)
-  refused reply why w t q d = (by_reply reply w t, faultless (is_fault why) reply why refl w t)
-    where
-      lands : (r : Result A Refusal) → (is_no_memory why ≡ false → r ≡ Err why) → Lands (on_answer f r) q (Err why)
-      lands r t = (d, λ n. ap (on_answer f) (t n))
-
-      by_reply : (reply : Reply) → Fits (Get key) reply → (is_no_memory why ≡ false → told reply ≡ Err why) → Heard (λ r. Lands (on_answer f (told r)) q (Err why) × (false ≡ true → IsSure {T = B} (on_answer f (told r)) (Err why))) reply
-      by_reply (Got got) w t = (lands (told (Got got)) t, λ n. cc)
-      by_reply (Failed done) w t = λ d. (lands (told (Failed d)) (λ n. fails d ∙ sym (fails done) ∙ t n), λ n. cc)
-      by_reply (New new) w t = absurd w
-      by_reply (Over over) w t = absurd w
-      by_reply (Gone gone) w t = absurd w
-      by_reply (GoneAt gone) w t = absurd w
-      by_reply (Listed listed) w t = absurd w
+  refused : (reply : Reply) (why : Refusal) → Fits (Get key) reply → Answers (told reply) (Err why) → AnswersOutright reply (told reply) (Err why) → (q : Program B) → IsDone q → Took (Ask (Get key) (λ r. on_answer f (told r))) reply q (Err why)
+  refused reply why w t o q d = H.refused (Get key) told f telling reply why w t o q d
 
   -- where it tells a value, the program goes on with it
-  went : (reply : Reply) (a : A) → Fits (Get key) reply → told reply ≡ Ok a → (q : Program B) (result : Result (Next B) Refusal) → Lands (f a) q result → IfErr result (λ refusal. is_fault refusal ≡ false) → Took (Ask (Get key) (λ r. on_answer f (told r))) reply q result
-  went reply a w t q result l n = (by_reply reply w t, excused reply result n)
-    where
-      lands : (r : Result A Refusal) → r ≡ Ok a → Lands (on_answer f r) q result
-      lands r t = subst (λ (x : Result A Refusal). Lands (on_answer f x) q result) (sym t) l
-
-      by_reply : (reply : Reply) → Fits (Get key) reply → told reply ≡ Ok a → Heard (λ r. Lands (on_answer f (told r)) q result × (false ≡ true → IsSure (on_answer f (told r)) result)) reply
-      by_reply (Got got) w t = (lands (told (Got got)) t, λ n. cc)
-      by_reply (Failed done) w t = let no_value = sym (fails done) ∙ t in absurd (cc)
-      by_reply (New new) w t = absurd w
-      by_reply (Over over) w t = absurd w
-      by_reply (Gone gone) w t = absurd w
-      by_reply (GoneAt gone) w t = absurd w
-      by_reply (Listed listed) w t = absurd w
+  went : (reply : Reply) (a : A) → told reply ≡ Ok a → (q : Program B) (result : Result (Next B) Refusal) → Lands (f a) q result → IfErr result (λ refusal. is_fault refusal ≡ false) → Took (Ask (Get key) (λ r. on_answer f (told r))) reply q result
+  went reply a t q result l n = H.went (Get key) told f telling reply a t q result l n
 
 -- ---- branches
 ref-tells : (branch : List ℕ) (got : TheGot) (why : Refusal) → ref_told branch (Got got) ≡ Err why → is_fault why ≡ false
@@ -82,11 +57,11 @@ ref-tells branch (Found bytes version now) why e = by_bytes (read_ref bytes) e
 ref-tells branch (Absent now) why e = no-fault NoRef why refl e
 
 module _ {B : Type 0} (branch : List ℕ) (reply : Reply) (f : Resolved → Program B) (w : Fits (Get (Branch branch)) reply) where
-  pub ref-refused : (why : Refusal) → Answers {A = Resolved} (ref_told branch reply) (Err why) → (q : Program B) → IsDone q → Took (resolve_program branch >>= f) reply q (Err why)
-  ref-refused why t q d = refused (Branch branch) (ref_told branch) f (λ done. refl) (ref-tells branch) reply why w t q d
+  pub ref-refused : (why : Refusal) → Answers {A = Resolved} (ref_told branch reply) (Err why) → AnswersOutright {A = Resolved} reply (ref_told branch reply) (Err why) → (q : Program B) → IsDone q → Took (resolve_program branch >>= f) reply q (Err why)
+  ref-refused why t o q d = refused (Branch branch) (ref_told branch) f (λ done. refl) (ref-tells branch) reply why w t o q d
 
   pub ref-went : (named : Resolved) → Answers (ref_told branch reply) (Ok named) → (q : Program B) (result : Result (Next B) Refusal) → Lands (f named) q result → IfErr result (λ refusal. is_fault refusal ≡ false) → Took (resolve_program branch >>= f) reply q result
-  ref-went named t q result l n = went (Branch branch) (ref_told branch) f (λ done. refl) (ref-tells branch) reply named w t q result l n
+  ref-went named t q result l n = went (Branch branch) (ref_told branch) f (λ done. refl) (ref-tells branch) reply named t q result l n
 
 -- ---- snapshots
 snapshot-tells : (id : Id12) (got : TheGot) (why : Refusal) → snapshot_told id (Got got) ≡ Err why → is_fault why ≡ false
@@ -98,11 +73,11 @@ snapshot-tells id (Found bytes version now) why e = by_bytes (read_snapshot id b
 snapshot-tells id (Absent now) why e = no-fault (Missing (Snapshot id)) why refl e
 
 module _ {B : Type 0} (id : Id12) (reply : Reply) (f : SnapshotFile → Program B) (w : Fits (Get (Snapshot id)) reply) where
-  pub snapshot-refused : (why : Refusal) → Answers {A = SnapshotFile} (snapshot_told id reply) (Err why) → (q : Program B) → IsDone q → Took (snapshot_program id >>= f) reply q (Err why)
-  snapshot-refused why t q d = refused (Snapshot id) (snapshot_told id) f (λ done. refl) (snapshot-tells id) reply why w t q d
+  pub snapshot-refused : (why : Refusal) → Answers {A = SnapshotFile} (snapshot_told id reply) (Err why) → AnswersOutright {A = SnapshotFile} reply (snapshot_told id reply) (Err why) → (q : Program B) → IsDone q → Took (snapshot_program id >>= f) reply q (Err why)
+  snapshot-refused why t o q d = refused (Snapshot id) (snapshot_told id) f (λ done. refl) (snapshot-tells id) reply why w t o q d
 
   pub snapshot-went : (s : SnapshotFile) → Answers (snapshot_told id reply) (Ok s) → (q : Program B) (result : Result (Next B) Refusal) → Lands (f s) q result → IfErr result (λ refusal. is_fault refusal ≡ false) → Took (snapshot_program id >>= f) reply q result
-  snapshot-went s t q result l n = went (Snapshot id) (snapshot_told id) f (λ done. refl) (snapshot-tells id) reply s w t q result l n
+  snapshot-went s t q result l n = went (Snapshot id) (snapshot_told id) f (λ done. refl) (snapshot-tells id) reply s t q result l n
 
 -- ---- logs
 log-tells : (id : Id12) (got : TheGot) (why : Refusal) → log_told id (Got got) ≡ Err why → is_fault why ≡ false
@@ -114,8 +89,8 @@ log-tells id (Found bytes version now) why e = by_bytes (read_log id bytes) e
 log-tells id (Absent now) why e = no-fault (Missing (Txn id)) why refl e
 
 module _ {B : Type 0} (id : Id12) (reply : Reply) (f : TxnFile → Program B) (w : Fits (Get (Txn id)) reply) where
-  pub log-refused : (why : Refusal) → Answers {A = TxnFile} (log_told id reply) (Err why) → (q : Program B) → IsDone q → Took (log_program id >>= f) reply q (Err why)
-  log-refused why t q d = refused (Txn id) (log_told id) f (λ done. refl) (log-tells id) reply why w t q d
+  pub log-refused : (why : Refusal) → Answers {A = TxnFile} (log_told id reply) (Err why) → AnswersOutright {A = TxnFile} reply (log_told id reply) (Err why) → (q : Program B) → IsDone q → Took (log_program id >>= f) reply q (Err why)
+  log-refused why t o q d = refused (Txn id) (log_told id) f (λ done. refl) (log-tells id) reply why w t o q d
 
   pub log-went : (log : TxnFile) → Answers (log_told id reply) (Ok log) → (q : Program B) (result : Result (Next B) Refusal) → Lands (f log) q result → IfErr result (λ refusal. is_fault refusal ≡ false) → Took (log_program id >>= f) reply q result
-  log-went log t q result l n = went (Txn id) (log_told id) f (λ done. refl) (log-tells id) reply log w t q result l n
+  log-went log t q result l n = went (Txn id) (log_told id) f (λ done. refl) (log-tells id) reply log t q result l n

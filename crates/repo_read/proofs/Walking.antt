@@ -12,7 +12,7 @@ use Rattle.store_api.specs.declared.machines.Refusal.TheVariants.{TooDeep}
 use Rattle.store_api.specs.Program.{Prog, Done, Ask, IsAsk, IsDone, NextIsPolite, Lands, is_fault}
 use Rattle.store_api.specs.Running.{Program}
 use Rattle.store_api.specs.Driving.{Asks, Awaits, Took}
-use Rattle.repo_read.specs.Answers.{snapshot_told, Answers}
+use Rattle.repo_read.specs.Answers.{snapshot_told, Answers, AnswersOutright}
 use Rattle.repo_read.specs.Chains.{walk}
 use Rattle.repo_read.proofs.Told.{snapshot-refused, snapshot-went}
 use Rattle.repo_read.specs.inside.Working.{walk_rest, walk_left, walk_behind}
@@ -58,14 +58,15 @@ walk-more left seen (Some own) id reply e w = (walk-left left seen (Some own) (a
 
 -- a refused reading refuses the walk
 pub walk-refused : (left : ℕ) (seen : List SnapshotFile) (next : Option Id12) (id : Id12) (reply : Reply) (why : Refusal) → next ≡ Some id → Awaits (walk_rest left seen next) reply → Answers {A = SnapshotFile} (snapshot_told id reply) (Err why)
-    → (q : Program (List SnapshotFile)) → IsDone q → Took (walk_rest left seen next) reply q (Err why)
+    → AnswersOutright {A = SnapshotFile} reply (snapshot_told id reply) (Err why) → (q : Program (List SnapshotFile)) → IsDone q → Took (walk_rest left seen next) reply q (Err why)
 unfolding walk
-walk-refused left seen None id reply why e a t q d = absurd a
-walk-refused zero seen (Some next) id reply why e a t q d = absurd a
-walk-refused (suc left) seen (Some next) id reply why e a t q d =
+walk-refused left seen None id reply why e a t o q d = absurd a
+walk-refused zero seen (Some next) id reply why e a t o q d = absurd a
+walk-refused (suc left) seen (Some next) id reply why e a t o q d =
     let same : next ≡ id = cc in
     let told = subst (λ (n : Id12). Answers {A = SnapshotFile} (snapshot_told n reply) (Err why)) (sym same) t in
-    snapshot-refused next reply (λ s. walk_behind left (seen ++ s ∷ []) s.parent) a why told q d
+    let outright = subst (λ (n : Id12). AnswersOutright {A = SnapshotFile} reply (snapshot_told n reply) (Err why)) (sym same) o in
+    snapshot-refused next reply (λ s. walk_behind left (seen ++ s ∷ []) s.parent) a why told outright q d
 
 -- the walk goes on with the parent of what was read
 pub walk-went : (left : ℕ) (seen : List SnapshotFile) (next : Option Id12) (id : Id12) (reply : Reply) (s : SnapshotFile) → next ≡ Some id → Awaits (walk_rest left seen next) reply → Answers (snapshot_told id reply) (Ok s)

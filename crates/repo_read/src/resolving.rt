@@ -1,7 +1,7 @@
 //! The snapshot that a branch, a tag or an id names, and the machine that reads it.
 
 ghost use Rattle.std.specs.Prelude.{◌≡◌, ◌<◌, ◌≤◌, IfErr, IfOk};
-ghost use Rattle.repo_read.specs.Answers.{Answers};
+ghost use Rattle.repo_read.specs.Answers.{Answers, AnswersOutright};
 ghost use Rattle.repo_read.specs.Programs.{MayRefuseRef};
 ghost use Rattle.store_api.specs.Program.{IsAsk, Steps};
 ghost use Rattle.store_api.specs.Driving.{op_of};
@@ -57,9 +57,10 @@ pub enum Resolution {
 }
 
 /// What a reply to the get of a tag tells: the snapshot that it names. Refusals: `NoRef` where it was absent, `BadFile` where
-/// its bytes are no reference, `StoreFault` where the get failed, or `NoMemory`.
+/// its bytes are no reference, `StoreFault` where the get failed, or, where there are bytes, `NoMemory`.
 pub fn tag_told(alloc: Global, tag: &RefName, reply: Reply) -> Result<Id12, Refusal>
     ensures told { Answers (tag_told tag.now reply) result }
+    ensures outright { AnswersOutright reply (tag_told tag.now reply) result }
     ensures listed { IfErr result MayRefuseRef }
 {
     let Reply::Got(got) = reply else {
@@ -100,6 +101,7 @@ fn tombstone_told(id: Id12, reply: Reply) -> Result<Id12, Refusal>
 /// absence is that of a ref, `NoRef`.
 pub fn base_told(alloc: Global, at: &At, id: Id12, reply: Reply) -> Result<Loaded, Refusal>
     ensures told { Answers (base_told at.now id reply) result }
+    ensures outright { AnswersOutright reply (base_told at.now id reply) result }
     ensures listed { IfErr result MayRefuseBase }
 {
     match (at, snapshot_told(alloc, id, reply)) {
@@ -150,6 +152,7 @@ impl Resolving {
     /// What the reply to it tells.
     pub fn on_reply(self, alloc: Global, reply: Reply) -> Result<Resolution, Refusal>
         ensures told { Answers (told_next self reply) result }
+        ensures outright { AnswersOutright reply (told_next self reply) result }
         ensures listed { IfErr result MayRefuseRef }
     {
         match self {

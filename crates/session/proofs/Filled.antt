@@ -79,6 +79,14 @@ module _ (s : SessionState) (p i : List ℕ) (byte : ℕ) where
   pub fill_refused : (fault : EditFault) → writes s ≡ true → chunk_found (nodes_seen s) p i ≡ Err fault → SetRefused (set_program s p i (filled s p byte)) s s (refusal_of_edit fault)
   fill_refused fault w e = set_refused s p i (filled s p byte) fault w (none_of i (get (nodes_seen s) p) fault (length (filled s p byte)) e)
 
+  pub fill_none : (fault : EditFault) → chunk_found (nodes_seen s) p i ≡ Err fault → set_refusal (nodes_seen s) p i (length (filled s p byte)) ≡ Some fault
+  fill_none fault e = none_of i (get (nodes_seen s) p) fault (length (filled s p byte)) e
+
+  pub fill_taken : (at : ChunkAt) → chunk_found (nodes_seen s) p i ≡ Ok at → set_refusal (nodes_seen s) p i (length (filled s p byte)) ≡ None
+  fill_taken at e =
+      let there : Option Node = get (nodes_seen s) p in
+      ap (set_refusal (nodes_seen s) p i) (length-replicate (length_at there) byte) ∙ (there_of i there at e).taken
+
   pub fill_there : (at : ChunkAt) → writes s ≡ true → chunk_found (nodes_seen s) p i ≡ Ok at → put_chunk_of s at.node i (replicate at.bytes byte) ≡ set_program s p i (filled s p byte)
   fill_there at w e =
       let there : Option Node = get (nodes_seen s) p in

@@ -3,6 +3,7 @@ pub mod Adding
 pub mod Changing
 pub mod SeenRows
 pub mod Chunking
+pub mod Outright
 pub mod Filled
 pub mod ReadSteps
 pub mod PropAdding

@@ -62,6 +62,12 @@ SetBegun p s (Ok (Ready t)) = p ≡ Done (Ok t)
 SetBegun p s (Ok (Again m)) = (set_rest m ≡ p) × IsAsk p × (set_session m ≡ Some (after_draw s))
 SetBegun p s (Err refused) = SetRefused p s refused.0 refused.1
 
+-- what refuses a set before it draws an id takes no memory, so it is told
+abbrev pub SetsOutright : Result (Unit {0}) Refusal → SessionState
+    → Result Setting (SessionState × Refusal) → Type 0
+SetsOutright (Ok allowed) s result = Unit {0}
+SetsOutright (Err why) s result = result ≡ Err (s, why)
+
 -- the refusals of the machine
 abbrev pub MayRefuseSet : Refusal → Type 0
 MayRefuseSet (IdTaken key) = Unit {0}

@@ -1,8 +1,9 @@
 //! Chunks all of whose bytes are the same.
 
-ghost use Rattle.std.specs.Prelude.{◌≡◌, IfOk, replicate};
+ghost use Rattle.std.specs.Prelude.{◌≡◌, IfOk, length, replicate};
 ghost use Rattle.session.specs.Chunks.{filled, set_program};
-ghost use Rattle.session.specs.Setting.{SetBegun};
+ghost use Rattle.session.specs.Setting.{SetBegun, SetsOutright};
+ghost use Rattle.session.specs.Placing.{set_allowed};
 
 use crate::editing::refusal_of_edit;
 use crate::{Session, Setting};
@@ -45,8 +46,10 @@ impl Session {
         index: &Index,
         byte: u8,
     ) -> Result<Setting, (Session, Refusal)>
-        ensures { SetBegun (set_program self path.now index.now (filled self path.now byte)) self
-            result }
+        ensures sets { SetBegun
+            (set_program self path.now index.now (filled self path.now byte)) self result }
+        ensures outright { SetsOutright
+            (set_allowed self path.now index.now (length (filled self path.now byte))) self result }
     {
         if !self.writes() {
             return Err((self, Refusal::ReadOnly));

@@ -1,13 +1,14 @@
 //! Setting chunks.
 
-ghost use Rattle.std.specs.Prelude.{◌≡◌, ◌<◌, length, Ok, Some, IfErr, IfOk, IsSome, IsTrue, OnErr, OnOk};
+ghost use Rattle.std.specs.Prelude.{◌≡◌, ◌<◌, length, Ok, Err, Some, None, IfErr, IfOk, IsSome, IsTrue, OnErr, OnOk};
 ghost use Rattle.ice_ids.specs.Drawing.{drawn12};
 ghost use Rattle.manifest_file.specs.declared.manifest.Place.TheVariants.{Inline as Is_inline, Object as Is_object};
 ghost use Rattle.store_api.specs.Program.{Done, IsAsk, IsDone, Steps, NextIsPolite};
 ghost use Rattle.store_api.specs.Driving.{Awaits, Took};
 ghost use Rattle.session.specs.Editing.{Leaves};
 ghost use Rattle.session.specs.Chunks.{after_object, chunk_unset, set_program, with_chunk_of};
-ghost use Rattle.session.specs.Setting.{set_rest, set_left, set_session, SetBegun, MayRefuseSet};
+ghost use Rattle.session.specs.Setting.{set_rest, set_left, set_session, SetBegun, SetsOutright, MayRefuseSet};
+ghost use Rattle.session.specs.Placing.{set_allowed};
 ghost use Rattle.session.specs.inside.Working.{LandsCalmly, put_chunk_of, put_object_of};
 
 use crate::Session;
@@ -84,7 +85,9 @@ impl Session {
         index: Index,
         bytes: Bytes,
     ) -> Result<Setting, (Session, Refusal)>
-        ensures { SetBegun (put_object_of self node index bytes (drawn12 self.ids)) self result }
+        ensures sets { SetBegun (put_object_of self node index bytes (drawn12 self.ids)) self
+            result }
+        ensures spent { drawn12 self.ids ≡ None → result ≡ Err (self, Refusal.IdsSpent) }
     {
         let Some(id) = self.ids.next12(self.alloc) else {
             return Err((self, Refusal::IdsSpent));
@@ -116,8 +119,8 @@ impl Session {
     }
 
     /// Sets a chunk. One of at most 512 bytes stands in the session; of a longer one the object is put, by a machine. It is
-    /// refused by `ReadOnly`, `NoNode`, `NotArray`, `OutOfGrid`, `ChunkLength` (with how many bytes a chunk has) or `IdsSpent`,
-    /// the first in this order, or by `NoMemory`, and the session comes back as it was, apart from one id that may have been
+    /// refused by `ReadOnly`, `NoNode`, `NotArray`, `OutOfGrid`, `ChunkLength` (with how many bytes a chunk has), which take no
+    /// memory, or `IdsSpent`, the first in this order, or by `NoMemory`, and the session comes back as it was, apart from one id that may have been
     /// drawn where memory ran out.
     pub fn set_chunk(
         self,
@@ -125,7 +128,9 @@ impl Session {
         index: &Index,
         bytes: &[u8],
     ) -> Result<Setting, (Session, Refusal)>
-        ensures { SetBegun (set_program self path.now index.now bytes.now) self result }
+        ensures sets { SetBegun (set_program self path.now index.now bytes.now) self result }
+        ensures outright { SetsOutright (set_allowed self path.now index.now (length bytes.now))
+            self result }
     {
         if !self.writes() {
             return Err((self, Refusal::ReadOnly));

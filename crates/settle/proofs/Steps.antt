@@ -12,7 +12,7 @@ use Rattle.store_api.specs.declared.machines.Refusal.TheVariants as R
 use Rattle.store_api.specs.Program.{Done, IsAsk, IsDone, NextIsPolite, Lands, is_fault}
 use Rattle.store_api.specs.Running.{Program}
 use Rattle.store_api.specs.Driving.{Asks, Awaits, Took}
-use Rattle.repo_read.specs.Answers.{snapshot_told, Answers}
+use Rattle.repo_read.specs.Answers.{snapshot_told, Answers, AnswersOutright}
 use Rattle.repo_read.proofs.Told.{snapshot-refused, snapshot-went}
 use Rattle.settle.specs.declared.settle.Doubt.{Doubt}
 use Rattle.settle.specs.declared.settle.Settled.{Settled}
@@ -47,10 +47,10 @@ way-awaits d head (suc left) id reply a = omega arith
 
 -- a refused reading refuses it
 pub way-refused : (d : Doubt) (head : Id12) (left : ℕ) (id : Id12) (reply : Reply) (why : Refusal) → Awaits (settle_walk d head left id) reply → Answers {A = SnapshotFile} (snapshot_told id reply) (Err why)
-    → (q : Program Settled) → IsDone q → Took (settle_walk d head left id) reply q (Err why)
+    → AnswersOutright {A = SnapshotFile} reply (snapshot_told id reply) (Err why) → (q : Program Settled) → IsDone q → Took (settle_walk d head left id) reply q (Err why)
 unfolding settle_walk
-way-refused d head zero id reply why a t q n = absurd a
-way-refused d head (suc left) id reply why a t q n = snapshot-refused id reply (λ s. way_behind d head left s.parent) a why t q n
+way-refused d head zero id reply why a t o q n = absurd a
+way-refused d head (suc left) id reply why a t o q n = snapshot-refused id reply (λ s. way_behind d head left s.parent) a why t o q n
 
 -- it goes on with the parent of what was read
 pub way-went : (d : Doubt) (head : Id12) (left : ℕ) (id : Id12) (reply : Reply) (s : SnapshotFile) (parent : Option Id12) → Awaits (settle_walk d head left id) reply → Answers (snapshot_told id reply) (Ok s) → s.parent ≡ parent

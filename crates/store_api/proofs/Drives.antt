@@ -11,7 +11,7 @@ use Rattle.store_api.specs.declared.machines.Next.{Next}
 use Rattle.store_api.specs.declared.machines.Refusal.{Refusal}
 use Rattle.store_api.specs.declared.machines.Refusal.TheVariants.{NoMemory}
 use Rattle.store_api.specs.Callers.{View, Called, Fits}
-use Rattle.store_api.specs.Program.{Prog, Done, Ask, IsAsk, IsDone, Lands, IsSure, Steps, Blames, moves_branch, is_fault}
+use Rattle.store_api.specs.Program.{Prog, Done, Ask, IsAsk, IsDone, Lands, IsSure, Steps, Blames, is_told_surely, is_fault}
 use Rattle.store_api.specs.Driving.{Asks, AskedBy, Awaits, Heard, Excuses, Took, has_failed}
 use Rattle.store_api.proofs.Programs.{Steps-answer, Waits-none, made-done}
 
@@ -27,7 +27,7 @@ excuses reply (Err s) x a r e = let y = x a in cc
 pub answered-steps : {T : Type 0} (p q : Prog (Result T Refusal)) (op : Op) → Asks p op → (old new : View) (reply : Reply) (result : Result (Next T) Refusal) → Awaits p reply → Called (λ r. r) op (Ok reply) old new → has_failed reply ≡ false → Took p reply q result → Steps old new p q result
 answered-steps (Done a) q op e old new reply result fits c f t = absurd e
 answered-steps {T} (Ask next k) q op e old new reply result fits c f t =
-    let h = heard (λ r. Lands (k r) q result × (moves_branch next ≡ true → IsSure (k r) result)) reply t.0 in
+    let h = heard (λ r. Lands (k r) q result × (is_told_surely next r ≡ true → IsSure (k r) result)) reply t.0 in
     let d = subst (λ (o : Op). Called (λ (r : Reply). r) o (Ok reply) old new) e c in
     Steps-answer (λ (r : Reply). r) next reply old new k q result fits d (excuses reply result t.1 f) h.0 h.1
 

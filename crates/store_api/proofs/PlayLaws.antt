@@ -1,12 +1,13 @@
 -- Laws of plays.
-use Rattle.std.proofs.Common.{◌≡◌, ℕ, inl, inr, Bool, true, false, true≢false, List, refl, sym, ap, subst}
+use Rattle.std.proofs.Common.{◌≡◌, ℕ, inl, inr, Bool, true, false, true≢false, List, refl, sym, ap, ◌∙◌, subst}
 use Rattle.std.specs.Prelude.{IsTrue, Result, Err}
 use Rattle.object_store.specs.declared.events.Op.{Op}
+use Rattle.object_store.specs.declared.events.Reply.{Reply}
 use Rattle.object_store.specs.declared.events.Event.{Event}
 use Rattle.store_api.specs.declared.machines.Refusal.{Refusal}
 use Rattle.store_api.specs.declared.machines.Refusal.TheVariants.{NoMemory}
 use Rattle.store_api.specs.Callers.{Caller, View, Waits}
-use Rattle.store_api.specs.Program.{Prog, Done, Ask as Ask_next, is_ask, Keeps, Leads, moves_branch}
+use Rattle.store_api.specs.Program.{Prog, Done, Ask as Ask_next, is_ask, Keeps, Leads, moves_branch, is_told_surely}
 use Rattle.store_api.specs.Plays.{Play, Ended, Ask, Or, call, behind, Comes, HasEnded, PlayKeeps, PlayLeads, Stays, dooms, Acts}
 use Rattle.store_api.proofs.Programs.{IsStable, Makes-waits}
 
@@ -47,10 +48,18 @@ PlayKeeps-weaker P Q f by (Ended a) journal k = tt
 PlayKeeps-weaker P Q f by (Ask op s g) journal k = (f journal by.number op k.0, PlayKeeps-weaker P Q f by s journal k.1, λ reply new m. PlayKeeps-weaker P Q f by (g reply) new (k.2 reply new m))
 PlayKeeps-weaker P Q f by (Or p q) journal k = (PlayKeeps-weaker P Q f by p journal k.0, PlayKeeps-weaker P Q f by q journal k.1)
 
-behind-keeps : {A : Type 0} (P : List Event → ℕ → Op → Type 0) (by : Caller) (op : Op) (p s : Play A) (journal : List Event) (over : Bool) → moves_branch op ≡ over → PlayKeeps P by p journal → (over ≡ false → PlayKeeps P by s journal) → PlayKeeps P by (behind op p s) journal
+-- where memory may be wanting behind a reply, no branch was put over
+free-moves : (op : Op) (reply : Reply) → is_told_surely op reply ≡ false → moves_branch op ≡ false
+free-moves op reply e = by_op (moves_branch op) refl
+  where
+    by_op : (over : Bool) → moves_branch op ≡ over → moves_branch op ≡ false
+    by_op true m = let surely : is_told_surely op reply ≡ true = rw m refl in absurd (true≢false (sym surely ∙ e))
+    by_op false m = m
+
+behind-keeps : {A : Type 0} (P : List Event → ℕ → Op → Type 0) (by : Caller) (op : Op) (reply : Reply) (p s : Play A) (journal : List Event) (surely : Bool) → is_told_surely op reply ≡ surely → PlayKeeps P by p journal → (surely ≡ false → PlayKeeps P by s journal) → PlayKeeps P by (behind op reply p s) journal
 unfolding PlayKeeps
-behind-keeps P by op p s journal true e k free = rw e k
-behind-keeps P by op p s journal false e k free = rw e (k, free refl)
+behind-keeps P by op reply p s journal true e k free = rw e k
+behind-keeps P by op reply p s journal false e k free = rw e (k, free refl)
 
 -- a call, and then what follows its answer
 pub PlayKeeps-call : {A B : Type 0} (P : List Event → ℕ → Op → Type 0) (Q : Result A Refusal → List Event → Type 0) (N : List Event → Type 0) (by : Caller) (p : Prog (Result A Refusal)) (f : Result A Refusal → Play B) (journal : List Event)
@@ -62,7 +71,7 @@ PlayKeeps-call P Q N by (Done a) f journal k l n g h = g a journal l
 PlayKeeps-call P Q N by (Ask_next op next) f journal k l n g h = (
   k.0,
   h journal n.0,
-  λ reply new m. behind-keeps P by op (call (next reply) f) (f (Err NoMemory)) new (moves_branch op) refl (PlayKeeps-call P Q N by (next reply) f new (k.1 reply new m) (l reply new m) (n.1 reply new m).1 g h) (λ e. h new ((n.1 reply new m).0 e)),
+  λ reply new m. behind-keeps P by op reply (call (next reply) f) (f (Err NoMemory)) new (is_told_surely op reply) refl (PlayKeeps-call P Q N by (next reply) f new (k.1 reply new m) (l reply new m) (n.1 reply new m).1 g h) (λ e. h new ((n.1 reply new m).0 (free-moves op reply e))),
 )
 
 -- ---- what holds of an outcome
@@ -95,10 +104,10 @@ PlayLeads-acts Q failed old new p q kept t s l = elim s.went [
       PlayLeads-comes Q old.caller n.starved q new.seen n.comes (PlayLeads-waits Q old.caller kept n.starved old.seen new.seen (n.waits t) here.0)
 ]
 
-behind-leads : {A : Type 0} (Q : A → List Event → Type 0) (by : Caller) (op : Op) (p s : Play A) (journal : List Event) (over : Bool) → moves_branch op ≡ over → PlayLeads Q by p journal → (over ≡ false → PlayLeads Q by s journal) → PlayLeads Q by (behind op p s) journal
+behind-leads : {A : Type 0} (Q : A → List Event → Type 0) (by : Caller) (op : Op) (reply : Reply) (p s : Play A) (journal : List Event) (surely : Bool) → is_told_surely op reply ≡ surely → PlayLeads Q by p journal → (surely ≡ false → PlayLeads Q by s journal) → PlayLeads Q by (behind op reply p s) journal
 unfolding PlayLeads
-behind-leads Q by op p s journal true e l free = rw e l
-behind-leads Q by op p s journal false e l free = rw e (l, free refl)
+behind-leads Q by op reply p s journal true e l free = rw e l
+behind-leads Q by op reply p s journal false e l free = rw e (l, free refl)
 
 -- a call, and then what follows its answer
 pub PlayLeads-call : {A B : Type 0} (R : B → List Event → Type 0) (Q : Result A Refusal → List Event → Type 0) (N : List Event → Type 0) (by : Caller) (p : Prog (Result A Refusal)) (f : Result A Refusal → Play B) (journal : List Event)
@@ -109,7 +118,7 @@ unfolding PlayLeads Leads Stays
 PlayLeads-call R Q N by (Done a) f journal l n g h = g a journal l
 PlayLeads-call R Q N by (Ask_next op next) f journal l n g h = (
   h journal n.0,
-  λ reply new m. behind-leads R by op (call (next reply) f) (f (Err NoMemory)) new (moves_branch op) refl (PlayLeads-call R Q N by (next reply) f new (l reply new m) (n.1 reply new m).1 g h) (λ e. h new ((n.1 reply new m).0 e)),
+  λ reply new m. behind-leads R by op reply (call (next reply) f) (f (Err NoMemory)) new (is_told_surely op reply) refl (PlayLeads-call R Q N by (next reply) f new (l reply new m) (n.1 reply new m).1 g h) (λ e. h new ((n.1 reply new m).0 (free-moves op reply e))),
 )
 
 -- ---- ends

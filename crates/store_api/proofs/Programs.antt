@@ -14,8 +14,8 @@ use Rattle.store_api.specs.declared.machines.Refusal.{Refusal}
 use Rattle.store_api.specs.declared.machines.Refusal.TheVariants.{NoMemory}
 use Rattle.object_store.specs.Machine.{IsAnswered}
 use Rattle.store_api.specs.Journal.{Each, IsPolite, IsGood}
-use Rattle.store_api.specs.Callers.{Caller, View, IsOther, Waits, Makes, Did, Called, own_event, owns, HasAll, Fits}
-use Rattle.store_api.specs.Program.{Prog, Done, IsDone, Path, events_of, Keeps, Leads, Ask, bind, Blames, Lands, Steps, Grows, moves_branch, IsSure, is_fault}
+use Rattle.store_api.specs.Callers.{Caller, View, IsOther, Waits, Makes, Did, Called, own_event, owns, HasAll, Fits, has_failed}
+use Rattle.store_api.specs.Program.{Prog, Done, IsDone, Path, events_of, Keeps, Leads, Ask, bind, Blames, Lands, Steps, Grows, moves_branch, is_told_surely, IsSure, is_fault}
 use Rattle.object_store.proofs.Journals.{Each-append, Each-weaker, Each-one}
 use Rattle.object_store.proofs.Waits.{Waits-none as none-by, Waits-same as same-by, Waits-trans as trans-by, Makes-waits as waits-by, Makes-alone as alone-by}
 use Rattle.store_api.proofs.Standing.{IsPolite-append}
@@ -122,8 +122,12 @@ Keeps-steps P old new p q result t s k = elim s.went [
   | inr n ↦ Keeps-done P old.caller q new.seen n.ended
 ]
 
+-- an operation that moves no branch is told surely where it failed
+pub told-failed : (op : Op) (reply : Reply) → moves_branch op ≡ false → is_told_surely op reply ≡ has_failed reply
+told-failed op reply e = rw e refl
+
 -- a step after an answer of the store
-pub Steps-answer : {T A : Type 0} (wrap : A → Reply) (op : Op) (answer : A) (old new : View) (next : Reply → Prog (Result T Refusal)) (q : Prog (Result T Refusal)) (result : Result (Next T) Refusal) → Fits op (wrap answer) → Called wrap op (Ok answer) old new → ((r : Refusal) → result ≡ Err r → is_fault r ≡ false) → Lands (next (wrap answer)) q result → (moves_branch op ≡ true → IsSure (next (wrap answer)) result) → Steps old new (Ask op next) q result
+pub Steps-answer : {T A : Type 0} (wrap : A → Reply) (op : Op) (answer : A) (old new : View) (next : Reply → Prog (Result T Refusal)) (q : Prog (Result T Refusal)) (result : Result (Next T) Refusal) → Fits op (wrap answer) → Called wrap op (Ok answer) old new → ((r : Refusal) → result ≡ Err r → is_fault r ≡ false) → Lands (next (wrap answer)) q result → (is_told_surely op (wrap answer) ≡ true → IsSure (next (wrap answer)) result) → Steps old new (Ask op next) q result
 Steps-answer {T} wrap op answer old new next q result fits c f l s = record {
   same = c.same;
   blames = blamed result f;

@@ -13,8 +13,8 @@ use Rattle.store_api.specs.declared.machines.Refusal.TheVariants.{NoMemory}
 use Rattle.object_store.specs.Machine.{IsAnswered}
 use Rattle.store_api.specs.Journal.{Each, IsPolite, IsGood}
 use Rattle.store_api.specs.Callers.{Caller, View, Waits, Makes, HasAll, Fits, own_event}
-use Rattle.store_api.specs.Program.{Prog, Done, Ask, IsAsk, Path, Grows, Steps, Lands, IsSure, NextIsPolite, Keeps, moves_branch, is_no_memory, is_fault}
-use Rattle.store_api.specs.Running.{Program, IsCutOff, Adds, Runs, StaysPolite, ends_moving}
+use Rattle.store_api.specs.Program.{Prog, Done, Ask, IsAsk, Path, Grows, Steps, Lands, IsSure, NextIsPolite, Keeps, is_told_surely, is_no_memory, is_fault}
+use Rattle.store_api.specs.Running.{Program, IsCutOff, Adds, Runs, StaysPolite, ends_surely}
 use Rattle.object_store.proofs.Journals.{Each-append, Each-none, Each-one}
 use Rattle.store_api.proofs.Programs.{alone, Grows-makes, good-waits, events_of-others, Path-one, Path-none, Keeps-steps}
 
@@ -115,9 +115,9 @@ made-fits by tells op reply old new m f = subst (λ (o : Op). Fits o m.event.rep
 cut-later : {T : Type 0} (op : Op) (next : Reply → Program T) (event : Event) (q : Program T) (own : List Event) (result : Result T Refusal) → event.op ≡ op → next event.reply ≡ q → IsAsk q → IsCutOff q own result → IsCutOff (Ask op next) (event ∷ own) result
 cut-later {T} op next event q own result o n live cut = record { result_is = cut.result_is; left = cut.left; path = Path-cons op next event q cut.left own o n cut.path; sure = sure own cut.path cut.sure }
   where
-    sure : (events : List Event) → Path q events cut.left → (IsTrue (ends_moving events) → IsAsk cut.left) → IsTrue (ends_moving (event ∷ events)) → IsAsk cut.left
-    sure [] path s over = subst (λ (x : Prog (Result T Refusal)). IsAsk x) (Path-end q cut.left path) live
-    sure (x ∷ xs) path s over = s over
+    sure : (events : List Event) → Path q events cut.left → (IsTrue (ends_surely events) → IsAsk cut.left) → IsTrue (ends_surely (event ∷ events)) → IsAsk cut.left
+    sure [] path s surely = subst (λ (x : Prog (Result T Refusal)). IsAsk x) (Path-end q cut.left path) live
+    sure (x ∷ xs) path s surely = s surely
 
 module _ {T : Type 0} (u v : View) (op : Op) (next : Reply → Program T) (reply : Reply) (fits : Fits op reply) (m : Made u.caller u.caller.tells op reply u.seen v.seen) (same : v.caller ≡ u.caller) (faults : u.faults ≤ v.faults) where
   later : (w : View) (q : Program T) (result : Result T Refusal) → next reply ≡ q → IsAsk q → Runs v w q result → Runs u w (Ask op next) result
@@ -155,15 +155,15 @@ module _ {T : Type 0} (u v : View) (op : Op) (next : Reply → Program T) (reply
   done result e = Path-cons op next m.event (Done result) (Done result) [] m.op_is (ap next m.reply_is ∙ e) (Path-none (Done result))
 
   -- where memory ran out behind the operation
-  starved : (over : Bool) → moves_branch op ≡ over → (over ≡ true → IsSure {T = T} (next reply) (Err NoMemory)) → Path (Ask op next) (m.event ∷ []) (Done (Err NoMemory)) ⊎ IsCutOff (Ask op next) (m.event ∷ []) (Err NoMemory)
+  starved : (surely : Bool) → is_told_surely op reply ≡ surely → (surely ≡ true → IsSure {T = T} (next reply) (Err NoMemory)) → Path (Ask op next) (m.event ∷ []) (Done (Err NoMemory)) ⊎ IsCutOff (Ask op next) (m.event ∷ []) (Err NoMemory)
   starved true e sure = inl (done (Err NoMemory) (sure refl))
-  starved false e sure = inr (record { result_is = refl; left = next m.event.reply; path = Path-one op next m.event m.op_is; sure = λ over. let no : moves_branch m.event.op ≡ false = ap moves_branch m.op_is ∙ e in cc })
+  starved false e sure = inr (record { result_is = refl; left = next m.event.reply; path = Path-one op next m.event m.op_is; sure = λ surely. let same : is_told_surely m.event.op m.event.reply ≡ is_told_surely op reply = λ i. is_told_surely (m.op_is i) (m.reply_is i) in let no = same ∙ e in cc })
 
-  refused : (q : Program T) (refusal : Refusal) → (is_fault refusal ≡ true → Rose u.faults v.faults) → Lands {T = T} (next reply) q (Err refusal) → (moves_branch op ≡ true → IsSure {T = T} (next reply) (Err refusal)) → Runs u v (Ask op next) (Err refusal)
+  refused : (q : Program T) (refusal : Refusal) → (is_fault refusal ≡ true → Rose u.faults v.faults) → Lands {T = T} (next reply) q (Err refusal) → (is_told_surely op reply ≡ true → IsSure {T = T} (next reply) (Err refusal)) → Runs u v (Ask op next) (Err refusal)
   refused q refusal blames lands sure = once (Err refusal) (λ why e f. blames (ap is_fault (err-same refusal why e) ∙ f)) (elim (memory-cases refusal) [
     | inl none ↦
         subst (λ (r : Refusal). Path (Ask op next) (m.event ∷ []) (Done (Err r)) ⊎ IsCutOff (Ask op next) (m.event ∷ []) (Err r)) (sym none)
-        (starved (moves_branch op) refl (λ o. subst (λ (r : Refusal). IsSure {T = T} (next reply) (Err r)) none (sure o)))
+        (starved (is_told_surely op reply) refl (λ o. subst (λ (r : Refusal). IsSure {T = T} (next reply) (Err r)) none (sure o)))
     | inr other ↦ inl (done (Err refusal) (lands.1 other))
   ])
 
@@ -175,7 +175,7 @@ Runs-stops u v p refusal none same faults waits = record {
   blames = λ why e f. let no : is_fault NoMemory ≡ true = ap is_fault (sym none ∙ err-same refusal why e) ∙ f in cc;
   own = [];
   fits = All-nil (λ event. Fits event.op event.reply);
-  ends = inr (record { result_is = ap (λ (r : Refusal). Err r) none; left = p; path = Path-none p; sure = λ over. cc });
+  ends = inr (record { result_is = ap (λ (r : Refusal). Err r) none; left = p; path = Path-none p; sure = λ surely. cc });
   grows = λ t. Grows-waits u.caller u.seen v.seen (waits t);
   alone = λ t. Adds-waits u.caller u.seen v.seen (waits t);
 }

@@ -19,7 +19,7 @@ use Rattle.store_api.specs.declared.machines.Refusal.{Refusal}
 use Rattle.object_store.specs.declared.events.StoreFault.{StoreFault}
 pub use Rattle.object_store.specs.Callers.{has_failed}
 use Rattle.store_api.specs.Callers.{View, Called, Fits}
-use Rattle.store_api.specs.Program.{Prog, Done, Ask, Lands, IsSure, moves_branch, is_fault}
+use Rattle.store_api.specs.Program.{Prog, Done, Ask, Lands, IsSure, is_told_surely, is_fault}
 
 -- the bytes of a put
 abbrev pub payload_bytes : Payload → List ℕ
@@ -65,5 +65,5 @@ abbrev pub Took : {T : Type 0} → Prog (Result T Refusal) → Reply → Prog (R
     → Result (Next T) Refusal → Type 0
 Took (Done a) reply q result = ⊥
 Took (Ask op k) reply q result =
-    Heard (λ r. Lands (k r) q result × (moves_branch op ≡ true → IsSure (k r) result)) reply
+    Heard (λ r. Lands (k r) q result × (is_told_surely op r ≡ true → IsSure (k r) result)) reply
     × Excuses reply result

@@ -10,7 +10,7 @@ use Rattle.store_api.specs.declared.machines.Refusal.{Refusal}
 use Rattle.store_api.specs.declared.machines.Refusal.TheVariants.{NoMemory}
 use Rattle.store_api.specs.Journal.{IsPolite}
 use Rattle.store_api.specs.Callers.{Caller, View, Makes, Waits, Fits}
-use Rattle.store_api.specs.Program.{Prog, Done, Ask as Ask_next, moves_branch}
+use Rattle.store_api.specs.Program.{Prog, Done, Ask as Ask_next, moves_branch, is_told_surely}
 
 -- It has ended; or an operation comes next, and behind it what follows where there is no
 -- memory for it, and what follows each reply; or it goes on as the first, or, where
@@ -20,17 +20,16 @@ pub data Play (A : Type 0) : Type 0 where
   Ask : Op → Play A → (Reply → Play A) → Play A
   Or : Play A → Play A → Play A
 
--- what follows a reply, where memory may be wanting; behind a put over
--- of a branch nothing is lost so
-abbrev pub behind : {A : Type 0} → Op → Play A → Play A → Play A
-behind op next starved = if moves_branch op then next else Or next starved
+-- what follows a reply, where memory may be wanting; what is told surely isn't lost so
+abbrev pub behind : {A : Type 0} → Op → Reply → Play A → Play A → Play A
+behind op reply next starved = if is_told_surely op reply then next else Or next starved
 
 -- a call of a machine that has this program, and then what follows its answer; it may answer
 -- NoMemory at each of its operations
 abbrev pub call : {A B : Type 0} → Prog (Result A Refusal) → (Result A Refusal → Play B) → Play B
 call (Done answer) f = f answer
 call (Ask_next op k) f =
-    Ask op (f (Err NoMemory)) (λ reply. behind op (call (k reply) f) (f (Err NoMemory)))
+    Ask op (f (Err NoMemory)) (λ reply. behind op reply (call (k reply) f) (f (Err NoMemory)))
 
 -- a play, with its outcome told as another one
 abbrev pub ended_as : {A B : Type 0} → (A → B) → Play A → Play B

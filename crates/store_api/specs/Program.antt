@@ -1,6 +1,6 @@
 -- Programs of store operations: what a machine has still to do.
 use Rattle.std.specs.Prelude.{◌≡◌, ◌⊎◌, ℕ, ◌≤◌, ◌==◌, List, [], ◌∷◌, ◌++◌}
-use Rattle.std.specs.Prelude.{filter, Bool, true, false, IsTrue, Result, Ok, Err}
+use Rattle.std.specs.Prelude.{filter, Bool, true, false, ◌||◌, IsTrue, Result, Ok, Err}
 use Rattle.ice_base.specs.Ends.{Rose}
 use Rattle.object_store.specs.declared.events.Op.{Op}
 use Rattle.object_store.specs.declared.keys.Key.{Key}
@@ -15,7 +15,7 @@ use Rattle.store_api.specs.declared.machines.Next.TheVariants.{Again, Ready}
 use Rattle.store_api.specs.declared.machines.Refusal.{Refusal}
 use Rattle.store_api.specs.declared.machines.Refusal.TheVariants as R
 use Rattle.store_api.specs.Journal.{Each, IsGood, IsPolite}
-use Rattle.store_api.specs.Callers.{Caller, View, Makes, Waits, Fits}
+use Rattle.store_api.specs.Callers.{Caller, View, Makes, Waits, Fits, has_failed}
 
 -- what is still to be done: an answer, or an operation and what follows each reply
 pub data Prog (A : Type 0) : Type 0 where
@@ -140,13 +140,17 @@ moves_branch (Remove key why) = false
 moves_branch (RemoveAt key old why) = false
 moves_branch (ListPart part) = false
 
+-- What follows from a put over of a branch, and from an operation that failed, isn't lost for want
+-- of memory.
+abbrev pub is_told_surely : Op → Reply → Bool
+is_told_surely op reply = moves_branch op || has_failed reply
+
 -- an answer that isn't free, also where it tells a want of memory
 abbrev pub IsSure : {T : Type 0} → Prog (Result T Refusal) → Result (Next T) Refusal → Type 0
 IsSure next (Ok answer) = Unit {0}
 IsSure next (Err refusal) = next ≡ Done (Err refusal)
 
--- A step with an operation: this caller's own event was made. What follows from a put over of a
--- branch isn't lost for want of memory.
+-- A step with an operation: this caller's own event was made.
 pub record Moves {T : Type 0} (old new : View) (p q : Prog (Result T Refusal))
     (result : Result (Next T) Refusal) : Type 0 where
   pub op : Op
@@ -156,7 +160,7 @@ pub record Moves {T : Type 0} (old new : View) (p q : Prog (Result T Refusal))
   pub fits : Fits op reply
   pub made : IsTrue old.caller.tells → Makes old.caller op reply old.seen new.seen
   pub lands : Lands (next reply) q result
-  pub sure : moves_branch op ≡ true → IsSure (next reply) result
+  pub sure : is_told_surely op reply ≡ true → IsSure (next reply) result
 
 -- a step for which the store had no memory
 pub record Stops {T : Type 0} (old new : View) (q : Prog (Result T Refusal))

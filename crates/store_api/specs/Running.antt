@@ -9,7 +9,7 @@ use Rattle.store_api.specs.declared.machines.Refusal.TheVariants.{NoMemory}
 use Rattle.store_api.specs.Callers.{Caller, View, HasAll, Fits}
 use Rattle.store_api.specs.Journal.{Each, IsGood, IsPolite}
 use Rattle.store_api.specs.Program.{Prog, Done, IsAsk, bind, Path}
-use Rattle.store_api.specs.Program.{Keeps, Grows, is_fault, moves_branch}
+use Rattle.store_api.specs.Program.{Keeps, Grows, is_fault, is_told_surely}
 
 -- ---- programs that may be refused
 -- a program that ends with an answer or a refusal
@@ -30,21 +30,21 @@ p >>= f = bind p (on_answer f)
 abbrev pub StaysPolite : {A : Type 0} → Caller → Prog A → List Event → Type 0
 StaysPolite by p journal = Keeps (λ known client op. IsPolite known op) by p journal
 
--- the last of these events put a branch over
-abbrev pub ends_moving : List Event → Bool
-ends_moving [] = false
-ends_moving (event ∷ []) = moves_branch event.op
-ends_moving (event ∷ next ∷ events) = ends_moving (next ∷ events)
+-- what follows from the last of these events is told surely
+abbrev pub ends_surely : List Event → Bool
+ends_surely [] = false
+ends_surely (event ∷ []) = is_told_surely event.op event.reply
+ends_surely (event ∷ next ∷ events) = ends_surely (next ∷ events)
 
--- Memory ran out when these events had been made, and this was left of the program. What
--- follows from a put over of a branch isn't lost so: where one came last, memory was wanting
--- for the operation that comes next.
+-- Memory ran out when these events had been made, and this was left of the program. Where a put
+-- over of a branch or an operation that failed came last, memory was wanting for the operation that
+-- comes next.
 pub record IsCutOff {A : Type 0} (p : Program A) (own : List Event)
     (result : Result A Refusal) : Type 0 where
   pub result_is : result ≡ Err NoMemory
   pub left : Program A
   pub path : Path p own left
-  pub sure : IsTrue (ends_moving own) → IsAsk left
+  pub sure : IsTrue (ends_surely own) → IsAsk left
 
 -- From old to new there were these events alone, all good.
 pub record Adds (own old new : List Event) : Type 0 where

@@ -1,13 +1,15 @@
 -- What the words say of the status.
-use Rattle.std.proofs.Common.{◌≡◌, ◌⊎◌, ◌∙◌, refl, sym, subst, inl, inr}
-use Rattle.std.specs.Prelude.{Result, Ok, Err}
+use Rattle.std.proofs.Common.{◌≡◌, ◌≢◌, ◌⊎◌, ◌∙◌, refl, sym, ap, subst, inl, inr}
+use Rattle.std.specs.Prelude.{ℕ, List, IsTrue, Result, Ok, Err}
 use Rattle.ice_base.specs.Ends.{InputAt}
 use Rattle.command_words.specs.declared.reading.Command.{Command}
 use Rattle.command_words.specs.declared.reading.Command.TheVariants as C
+use Rattle.command_words.specs.declared.reading.Topic.TheVariants as T
 use Rattle.command_words.specs.declared.reading.UsageFault.{UsageFault}
 use Rattle.command_words.specs.declared.reading.WordsFault.{WordsFault}
 use Rattle.command_words.specs.declared.reading.WordsFault.TheVariants as W
-use Rattle.command_words.specs.Words.{IsFault}
+use Rattle.command_words.specs.Words.{IsFault, asks_clap, command_of}
+use Rattle.command_words.proofs.Unread.{read_or_told}
 use Rattle.top_call.specs.declared.statuses.Status.{Status}
 use Rattle.top_call.specs.declared.statuses.Status.TheVariants as S
 use Rattle.top_call.specs.Statuses.{of_words}
@@ -46,3 +48,19 @@ no_store W.NoMemory k = absurd cc
 pub no_sink : {P : Type 0} (fault : WordsFault) → of_words fault ≡ S.WriteFault → P
 no_sink (W.Usage fault) k = absurd cc
 no_sink W.NoMemory k = absurd cc
+
+-- ---- where want of memory may be told
+abbrev refused : WordsFault → Result Command WordsFault
+refused fault = Err fault
+
+pub unread : {P : Type 0} (fault : WordsFault) → (refused fault ≡ refused W.NoMemory → P) → of_words fault ≡ S.NoMemory → P
+unread (W.Usage fault) memory k = absurd cc
+unread W.NoMemory memory k = memory refl
+
+pub read_in_memory : (words : List (List ℕ)) (command : Command) (status : Status) → command_of words ≡ Ok command → (command ≡ C.Version → status ≢ S.NoMemory) → status ≡ S.NoMemory → IsTrue (asks_clap words) ⊎ (command_of words ≡ Ok (C.Help T.Program))
+read_in_memory words command status e apart k = by_command (read_or_told words command e)
+  where
+    by_command : IsTrue (asks_clap words) ⊎ ((command ≡ C.Help T.Program) ⊎ (command ≡ C.Version)) → IsTrue (asks_clap words) ⊎ (command_of words ≡ Ok (C.Help T.Program))
+    by_command (inl read) = inl read
+    by_command (inr (inl help)) = inr (e ∙ ap Ok help)
+    by_command (inr (inr version)) = absurd (apart version k)

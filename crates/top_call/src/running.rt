@@ -1,6 +1,6 @@
 //! The top call.
 
-ghost use Rattle.std.specs.Prelude.{◌≡◌, ◌≤◌, ◌⊎◌, true, map, Ok, Err, IfOk, IsTrue, MatchResult};
+ghost use Rattle.std.specs.Prelude.{◌≡◌, ◌≢◌, ◌≤◌, ◌⊎◌, true, map, Ok, Err, IfOk, IsTrue, MatchResult};
 ghost use Rattle.drafts.specs.Drafts.{IsBlank};
 ghost use Rattle.ice_base.specs.Ends.{InputAt, Rose, TakesAtMost};
 ghost use Rattle.store_api.specs.Journal.{IsGoodJournal};
@@ -9,7 +9,8 @@ ghost use Rattle.top_call.specs.Promise.{KeepsOwn, KeepsSound, SparesOwn, Spares
 ghost use Rattle.top_call.specs.Exact.{Exact};
 ghost use Rattle.top_call.specs.GoesOn.{GoesOn};
 ghost use Rattle.top_call.specs.Run.{most_input, HasScript, HasNone, TellsRefused, IsCalm, IsFaultless};
-ghost use Rattle.command_words.specs.Words.{command_of, IsInRange};
+ghost use Rattle.command_words.specs.Words.{asks_clap, command_of, IsInRange};
+ghost use Rattle.command_words.specs.declared.reading.Topic.TheVariants as Topic;
 ghost use Rattle.command_words.specs.declared.reading.UsageFault.{UsageFault};
 ghost use Rattle.top_call.specs.Check.{Checks, StaysSound};
 ghost use Rattle.top_call.specs.inside.Playing.{PlayEnds, Ends, IsReported};
@@ -275,6 +276,7 @@ fn run_command<R: Threads + Wait + Sync, I: Source, S: Counting + Send, K: Sink,
     ensures ends { Ends command draw (I.at input.old) (I.at input.new) (S.view store)
         (S.view result.store) (K.at out.old) (K.at out.new) result.status }
     ensures bound { TakesAtMost most_input (I.at input.old) (I.at input.new) }
+    ensures memory { command ≡ Command.Version → result.status ≢ Status.NoMemory }
 {
     match command {
         Command::Play => run_input(rt, alloc, draw, input, store, gate, out),
@@ -317,6 +319,11 @@ pub fn run<R: Threads + Wait + Sync, I: Source, S: Counting + Send, K: Sink, G: 
         → ((result.status ≡ Status.Usage fault) ⊎ (result.status ≡ Status.NoMemory))
         × (S.view result.store ≡ S.view store) × (I.at input.new ≡ I.at input.old)
         × (K.at out.new ≡ K.at out.old) }
+
+    // Want of memory is told only where clap reads the words, or of the program's help: never of the version, nor where no word
+    // or an unknown one comes first.
+    ensures memory { result.status ≡ Status.NoMemory
+        → IsTrue (asks_clap words.now) ⊎ (command_of words.now ≡ Ok (Command.Help Topic.Program)) }
 
     // Over an empty store that tells its journal, where ids are drawn by counting, each script that was played keeps what is
     // promised, with no premise: each branch's updates form one list, each commit is its session's solved changes on the entry

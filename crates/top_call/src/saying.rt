@@ -1,5 +1,6 @@
 //! What the program says of itself.
 
+ghost use Rattle.std.specs.Prelude.{◌≢◌};
 ghost use Rattle.command_words.specs.Help.{help_of};
 ghost use Rattle.top_call.specs.Run.{SayEnds};
 
@@ -8,9 +9,10 @@ use command_words::Topic;
 use ice_base::{Sink, write_whole};
 use std::alloc::Global;
 
-/// Writes a text.
+/// Writes a text. It takes no memory.
 pub fn say<K: Sink>(out: &mut K, text: &str) -> Status
-    ensures { SayEnds text.now (K.at out.old) (K.at out.new) result }
+    ensures ends { SayEnds text.now (K.at out.old) (K.at out.new) result }
+    ensures memory { result ≢ Status.NoMemory }
 {
     match write_whole(out, text.as_bytes()) {
         Ok(()) => Status::Ok,

@@ -85,7 +85,7 @@ answered-steps {A} (Ask side op starved k) q old new reply fits asked calm took 
         made = c.did;
         rose = λ f. absurd (cc);
         stays = asked.1;
-        comes = heard (λ r. Comes op starved (k r) q) reply took;
+        comes = heard (λ r. Comes op r starved (k r) q) reply took;
       });
     }
 

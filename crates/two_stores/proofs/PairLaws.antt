@@ -1,5 +1,5 @@
 -- Laws of programs of operations on two stores: what holds of them whatever others do, and behind each step.
-use Rattle.std.proofs.Common.{◌≡◌, ℕ, refl, sym, ◌∙◌, ap, subst, inl, inr, Bool, true, List}
+use Rattle.std.proofs.Common.{◌≡◌, ℕ, refl, sym, ◌∙◌, ap, subst, inl, inr, Bool, true, false, true≢false, List}
 use Rattle.std.specs.Prelude.{IsTrue}
 use Rattle.ice_base.specs.Ends.{Rose}
 use Rattle.object_store.specs.declared.events.Op.{Op}
@@ -12,7 +12,7 @@ use Rattle.store_api.proofs.Programs.{Waits-none, Waits-same, Waits-trans, Makes
 use Rattle.two_stores.specs.declared.side.Side.{Side}
 use Rattle.two_stores.specs.declared.side.Side.TheVariants.{From, To}
 use Rattle.two_stores.specs.Sides.{Both, pair_of, at_side, other, callers_of, seen_of, OthersCame}
-use Rattle.two_stores.specs.Pairs.{PairProg, Done, Ask, on_side, Comes, PairSteps, StepsOn, KeepsPair, LeadsPair, IsFair, dooms, BlamesSide}
+use Rattle.two_stores.specs.Pairs.{PairProg, Done, Ask, on_side, moves_ref, is_told_surely, Comes, PairSteps, StepsOn, KeepsPair, LeadsPair, IsFair, dooms, BlamesSide}
 
 -- ---- both sides
 -- the journals where one side has gone on, and the other hasn't
@@ -60,9 +60,9 @@ KeepsPair-done : {A : Type 0} (P : Side → Both (List Event) → Op → Type 0)
 unfolding KeepsPair
 KeepsPair-done P by a q seen e = rw e tt
 
-KeepsPair-comes : {A : Type 0} (P : Side → Both (List Event) → Op → Type 0) (by : Both Caller) (op : Op) (starved : A) (next q : PairProg A) (seen : Both (List Event)) → Comes op starved next q → KeepsPair P by next seen → KeepsPair P by q seen
-KeepsPair-comes P by op starved next q seen (inl e) k = subst (λ (x : PairProg _). KeepsPair P by x seen) (sym e) k
-KeepsPair-comes P by op starved next q seen (inr e) k = KeepsPair-done P by starved q seen e.1
+KeepsPair-comes : {A : Type 0} (P : Side → Both (List Event) → Op → Type 0) (by : Both Caller) (op : Op) (reply : Reply) (starved : A) (next q : PairProg A) (seen : Both (List Event)) → Comes op reply starved next q → KeepsPair P by next seen → KeepsPair P by q seen
+KeepsPair-comes P by op reply starved next q seen (inl e) k = subst (λ (x : PairProg _). KeepsPair P by x seen) (sym e) k
+KeepsPair-comes P by op reply starved next q seen (inr e) k = KeepsPair-done P by starved q seen e.1
 
 KeepsPair-asks : {A : Type 0} (P : Side → Both (List Event) → Op → Type 0) (by : Both Caller) (side : Side) (op : Op) (starved : A) (next : Reply → PairProg A) (reply : Reply) (old new : Both (List Event)) → StepsOn by side op reply old new → KeepsPair P by (Ask side op starved next) old → KeepsPair P by (next reply) new
 unfolding KeepsPair
@@ -71,7 +71,7 @@ KeepsPair-asks P by side op starved next reply old new s k = k.1 reply new s
 -- behind one's own step
 pub KeepsPair-steps : {A : Type 0} (P : Side → Both (List Event) → Op → Type 0) (old new : Both View) (p q : PairProg A) → PairSteps old new p q → KeepsPair P (callers_of old) p (seen_of old) → KeepsPair P (callers_of old) q (seen_of new)
 KeepsPair-steps P old new p q s k = elim s.went [
-  | inl m ↦ KeepsPair-comes P (callers_of old) m.op m.starved (m.next m.reply) q (seen_of new) m.comes (KeepsPair-asks P (callers_of old) m.side m.op m.starved m.next m.reply (seen_of old) (seen_of new) (stepped old new m.side m.op m.reply m.fits m.made m.stays) (subst (λ (x : PairProg _). KeepsPair P (callers_of old) x (seen_of old)) m.asks k))
+  | inl m ↦ KeepsPair-comes P (callers_of old) m.op m.reply m.starved (m.next m.reply) q (seen_of new) m.comes (KeepsPair-asks P (callers_of old) m.side m.op m.starved m.next m.reply (seen_of old) (seen_of new) (stepped old new m.side m.op m.reply m.fits m.made m.stays) (subst (λ (x : PairProg _). KeepsPair P (callers_of old) x (seen_of old)) m.asks k))
   | inr n ↦ KeepsPair-done P (callers_of old) n.starved q (seen_of new) n.ended
 ]
 
@@ -108,10 +108,18 @@ pub LeadsPair-done : {A : Type 0} (Q : A → Both (List Event) → Type 0) (by :
 unfolding LeadsPair
 LeadsPair-done Q by a q seen e h = rw e h
 
-LeadsPair-asks : {A : Type 0} (Q : A → Both (List Event) → Type 0) (by : Both Caller) (side : Side) (op : Op) (starved : A) (next : Reply → PairProg A) (reply : Reply) (old new : Both (List Event)) (q : PairProg A) → StepsOn by side op reply old new → Comes op starved (next reply) q → LeadsPair Q by (Ask side op starved next) old → LeadsPair Q by q new
+-- where memory may be wanting behind a reply, no ref was changed
+free-moves : (op : Op) (reply : Reply) → is_told_surely op reply ≡ false → moves_ref op ≡ false
+free-moves op reply e = by_op (moves_ref op) refl
+  where
+    by_op : (over : Bool) → moves_ref op ≡ over → moves_ref op ≡ false
+    by_op true m = let surely : is_told_surely op reply ≡ true = rw m refl in absurd (true≢false (sym surely ∙ e))
+    by_op false m = m
+
+LeadsPair-asks : {A : Type 0} (Q : A → Both (List Event) → Type 0) (by : Both Caller) (side : Side) (op : Op) (starved : A) (next : Reply → PairProg A) (reply : Reply) (old new : Both (List Event)) (q : PairProg A) → StepsOn by side op reply old new → Comes op reply starved (next reply) q → LeadsPair Q by (Ask side op starved next) old → LeadsPair Q by q new
 unfolding LeadsPair
 LeadsPair-asks Q by side op starved next reply old new q s (inl e) l = subst (λ (x : PairProg _). LeadsPair Q by x new) (sym e) (l.1 reply new s).1
-LeadsPair-asks Q by side op starved next reply old new q s (inr e) l = LeadsPair-done Q by starved q new e.1 ((l.1 reply new s).0 e.0)
+LeadsPair-asks Q by side op starved next reply old new q s (inr e) l = LeadsPair-done Q by starved q new e.1 ((l.1 reply new s).0 (free-moves op reply e.0))
 
 LeadsPair-starves : {A : Type 0} (Q : A → Both (List Event) → Type 0) (by : Both Caller) → IsKept by Q → (side : Side) (op : Op) (starved : A) (next : Reply → PairProg A) (old new : Both (List Event)) (q : PairProg A) → OthersCame by old new → q ≡ Done starved → LeadsPair Q by (Ask side op starved next) old → LeadsPair Q by q new
 unfolding LeadsPair
@@ -165,7 +173,7 @@ IsFair-done : {A : Type 0} (blames : Side → A → Bool) (a : A) (q : PairProg 
 unfolding IsFair
 IsFair-done blames a q e = rw e tt
 
-fair-asks : {A : Type 0} (blames : Side → A → Bool) (side : Side) (op : Op) (starved : A) (next : Reply → PairProg A) (reply : Reply) (q : PairProg A) → Fits op reply → Comes op starved (next reply) q → IsFair blames (Ask side op starved next) → IsFair blames q
+fair-asks : {A : Type 0} (blames : Side → A → Bool) (side : Side) (op : Op) (starved : A) (next : Reply → PairProg A) (reply : Reply) (q : PairProg A) → Fits op reply → Comes op reply starved (next reply) q → IsFair blames (Ask side op starved next) → IsFair blames q
 unfolding IsFair
 fair-asks blames side op starved next reply q fits (inl e) f = subst (λ (x : PairProg _). IsFair blames x) (sym e) (f reply fits).1
 fair-asks blames side op starved next reply q fits (inr e) f = IsFair-done blames starved q e.1
@@ -177,7 +185,7 @@ IsFair-steps blames old new p q s f = elim s.went [
   | inr n ↦ IsFair-done blames n.starved q n.ended
 ]
 
-blamed-asks : {A : Type 0} (blames : Side → A → Bool) (old new : Both View) (on : Side) (op : Op) (starved : A) (next : Reply → PairProg A) (reply : Reply) (q : PairProg A) → Fits op reply → Comes op starved (next reply) q → (has_failed reply ≡ true → Rose (at_side on old).faults (at_side on new).faults) → IsFair blames (Ask on op starved next) → BlamesSide blames (Ask on op starved next) q old new
+blamed-asks : {A : Type 0} (blames : Side → A → Bool) (old new : Both View) (on : Side) (op : Op) (starved : A) (next : Reply → PairProg A) (reply : Reply) (q : PairProg A) → Fits op reply → Comes op reply starved (next reply) q → (has_failed reply ≡ true → Rose (at_side on old).faults (at_side on new).faults) → IsFair blames (Ask on op starved next) → BlamesSide blames (Ask on op starved next) q old new
 unfolding IsFair
 blamed-asks blames old new on op starved next reply q fits (inl e) rose f side d = elim ((f reply fits).0 side (ap (dooms blames side) (sym e) ∙ d)) [
   | inl s ↦ inl s

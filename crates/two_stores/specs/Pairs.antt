@@ -1,5 +1,5 @@
 -- Programs of operations on two stores: what a machine has still to do.
-use Rattle.std.specs.Prelude.{◌≡◌, ◌⊎◌, ◌≤◌, List, Bool, true, false, IsTrue, Result}
+use Rattle.std.specs.Prelude.{◌≡◌, ◌⊎◌, ◌≤◌, List, Bool, true, false, ◌||◌, IsTrue, Result}
 use Rattle.ice_base.specs.Ends.{Rose}
 use Rattle.object_store.specs.declared.keys.Key.{Key}
 use Rattle.object_store.specs.declared.keys.Key.TheVariants.{Snapshot, Manifest, Txn, Chunk}
@@ -82,16 +82,20 @@ moves_ref (Remove key why) = is_ref key
 moves_ref (RemoveAt key old why) = is_ref key
 moves_ref (ListPart part) = false
 
--- Behind a reply that has this program next, what is left. Memory may be wanting; but what follows
--- a change of a ref isn't lost so.
-abbrev pub Comes : {A : Type 0} → Op → A → (next rest : PairProg A) → Type 0
-Comes op starved next rest = (rest ≡ next) ⊎ ((moves_ref op ≡ false) × (rest ≡ Done starved))
+-- what follows a change of a ref, and an operation that failed, isn't lost for want of memory
+abbrev pub is_told_surely : Op → Reply → Bool
+is_told_surely op reply = moves_ref op || has_failed reply
+
+-- behind a reply that has this program next, what is left; memory may be wanting
+abbrev pub Comes : {A : Type 0} → Op → Reply → A → (next rest : PairProg A) → Type 0
+Comes op reply starved next rest =
+    (rest ≡ next) ⊎ ((is_told_surely op reply ≡ false) × (rest ≡ Done starved))
 
 -- What a machine that had p to do has left behind a reply. Whether a failed
 -- operation was done isn't known to it.
 abbrev pub Took : {A : Type 0} → PairProg A → Reply → PairProg A → Type 0
 Took (Done a) reply q = ⊥
-Took (Ask side op starved k) reply q = Heard (λ r. Comes op starved (k r) q) reply
+Took (Ask side op starved k) reply q = Heard (λ r. Comes op r starved (k r) q) reply
 
 -- it has ended as it does where there is no memory for the operation that comes next
 abbrev pub Starves : {A : Type 0} → PairProg A → PairProg A → Type 0
@@ -113,7 +117,7 @@ pub record Acted {A : Type 0} (old new : Both View) (p q : PairProg A) : Type 0 
       → Makes (at_side side old).caller op reply (at_side side old).seen (at_side side new).seen
   pub rose : has_failed reply ≡ true → Rose (at_side side old).faults (at_side side new).faults
   pub stays : at_side (other side) new ≡ at_side (other side) old
-  pub comes : Comes op starved (next reply) q
+  pub comes : Comes op reply starved (next reply) q
 
 -- a step for whose operation there was no memory
 pub record Starved {A : Type 0} (old new : Both View) (p q : PairProg A) : Type 0 where

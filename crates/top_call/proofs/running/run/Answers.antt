@@ -4,7 +4,7 @@ use Rattle.top_call.specs.declared.statuses.Status.TheVariants as S
 use Rattle.top_call.specs.Run.{TellsRefused, IsFaultless}
 use Rattle.top_call.specs.Exact.{Exact}
 use Rattle.top_call.specs.GoesOn.{GoesOn}
-use Rattle.top_call.proofs.Commands.{of_said, not_said, usage_told, starved, refused_starved, no_store, no_sink}
+use Rattle.top_call.proofs.Commands.{of_said, not_said, usage_told, starved, refused_starved, no_store, no_sink, unread, read_in_memory}
 use Rattle.top_call.proofs.Endings.{ends_starved, store_faulted, sink_faulted}
 use Rattle.top_call.proofs.Readings.{tells_refused, faultless}
 use Rattle.top_call.specs.Promise.{KeepsSound, KeepsOwn, SparesSound, SparesOwn}
@@ -78,3 +78,9 @@ returns-in-Err-clause-spares g c = rw c.from.ensures (λ command k. starved (com
 
 pub returns-in-Err-clause-spares_ours : goal.returns-in-Err-clause-spares_ours
 returns-in-Err-clause-spares_ours g c = rw c.from.ensures (λ command k. starved (command_of c.args.words.now) c.in-Err.fault c.in-Err.ensures.says (λ status. SparesOwn c.args.draw command (record { input = g.I.Source.at c.args.input.now; store = g.S.Viewed.view c.args.store; out = g.K.Sink.at c.args.out.now }) (record { input = g.I.Source.at c.args.input.now; store = g.S.Viewed.view c.args.store; out = g.K.Sink.at c.args.out.now }) status) (unplayed c.args.draw (record { input = g.I.Source.at c.args.input.now; store = g.S.Viewed.view c.args.store; out = g.K.Sink.at c.args.out.now }) (record { input = g.I.Source.at c.args.input.now; store = g.S.Viewed.view c.args.store; out = g.K.Sink.at c.args.out.now }) command _ (record { out = refl; store = inl refl })) command k)
+
+pub returns-in-Ok-clause-memory : goal.returns-in-Ok-clause-memory
+returns-in-Ok-clause-memory g c = read_in_memory c.args.words.now c.in-Ok.command c.run_command.result.status c.in-Ok.ensures.says c.run_command.ensures.memory
+
+pub returns-in-Err-clause-memory : goal.returns-in-Err-clause-memory
+returns-in-Err-clause-memory g c = λ k. inl (unread c.in-Err.fault c.in-Err.ensures.memory (sym c.from.ensures ∙ k))

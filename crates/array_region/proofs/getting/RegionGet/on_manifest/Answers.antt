@@ -25,7 +25,7 @@ returns-in-Ok-on_file-clause-took c =
     let n = c.on_file.new.self in
     let file = in_file (chunk_length m.plan.array) m.plan.node c.args.index c.args.id (listed_kept (chunk_length m.plan.array) m.plan.node c.args.index (drop c.args.at c.args.ids)) in
     let f : Result ManifestFile Refusal → Program _ = λ told. box_after (on_answer file told) m.session (reads_of m.plan) m.numbers.items c.args.index (drop m.at (chunks_of (reads_of m.plan))) in
-    took_manifest (region_rest c.on_found.new.self) c.on_found.result c.args.reply c.args.id f (Ok c.in-Ok.held) (sym c.in-Ok.is ∙ c.manifest_told.ensures.told)
+    took_manifest (region_rest c.on_found.new.self) c.on_found.result c.args.reply c.args.id f c.in-Ok.held (sym c.in-Ok.is ∙ c.manifest_told.ensures.told)
     (subst (λ p. LandsCalmly p (region_rest c.on_found.new.self) c.on_found.result) (as_before m n c.on_file.ensures.session c.on_file.ensures.plan c.on_file.ensures.numbers c.on_file.ensures.at (file c.in-Ok.held) c.args.index)
     (c.on_found.ensures.took c.args.index (length c.args.ids - c.args.at + 1) (file c.in-Ok.held) (found (goal.at.returns-in-Ok-on_file-clause-took c).After-on_found)))
 

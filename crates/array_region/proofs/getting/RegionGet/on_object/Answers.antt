@@ -15,7 +15,7 @@ pub returns-in-Ok-clause-took : goal.returns-in-Ok-clause-took
 returns-in-Ok-clause-took c =
     let m = c.args.self.now in
     let f : Result (List ℕ) Refusal → Program _ = λ told. box_after ((Done told >>= λ bytes. Done (Ok (Bytes bytes))) >>= keeping (kept_of m.kept)) m.session (reads_of m.plan) m.numbers.items c.args.index (drop m.at (chunks_of (reads_of m.plan))) in
-    took_object (region_rest c.on_found.new.self) c.on_found.result c.args.reply (chunk_length m.plan.array) c.args.id c.args.offset c.args.length f (Ok c.in-Ok.bytes)
+    took_object (region_rest c.on_found.new.self) c.on_found.result c.args.reply (chunk_length m.plan.array) c.args.id c.args.offset c.args.length f c.in-Ok.bytes
     (sym c.in-Ok.is ∙ c.object_told.ensures.told ∙ ap (λ want. object_told want c.args.id c.args.offset c.args.length c.args.reply) c.want.ensures)
     (c.on_found.ensures.took c.args.index 0 (keeping (kept_of m.kept) (Bytes c.in-Ok.bytes)) (refl, refl))
 

@@ -17,7 +17,7 @@ pub returns-in-Ok-clause-took : goal.returns-in-Ok-clause-took
 returns-in-Ok-clause-took c =
     let m = c.args.self.now in
     let f : Result (List ℕ) Refusal → Program SessionState = λ told. box_written ((Done told >>= λ bytes. Done (Ok (Bytes bytes))) >>= keeping (kept_of m.kept)) (run_old m) (run_entered m) (run_reads m) m.given.numbers.items c.args.index (run_met m) in
-    run_object c.on_found.new.self c.on_found.result c.args.reply (chunk_length (run_reads m).array) c.args.id c.args.offset c.args.length f (Ok c.in-Ok.bytes)
+    run_object c.on_found.new.self c.on_found.result c.args.reply (chunk_length (run_reads m).array) c.args.id c.args.offset c.args.length f c.in-Ok.bytes
     (sym c.in-Ok.is ∙ c.object_told.ensures.told ∙ ap (λ want. object_told want c.args.id c.args.offset c.args.length c.args.reply) c.want.ensures)
     (c.on_found.ensures.lands c.args.index 0 (keeping (kept_of m.kept) (Bytes c.in-Ok.bytes)) (refl, refl))
 

@@ -6,4 +6,4 @@ pub returns-in-Ok-clause-took : goal.returns-in-Ok-clause-took
 returns-in-Ok-clause-took c = went _ _ _ (ref-tells c.args.key.now) c.args.reply c.in-Ok.id c.in-Ok.ensures.told _ _ c.after_lease.ensures.lands c.after_lease.ensures.calm
 
 pub returns-in-Err-clause-took : goal.returns-in-Err-clause-took
-returns-in-Err-clause-took c = refused _ _ _ (ref-tells c.args.key.now) c.args.reply c.in-Err.why c.requires.fits (c.in-Err.ensures.told) _ (rw c.requires.ended tt)
+returns-in-Err-clause-took c = refused _ _ _ (ref-tells c.args.key.now) c.args.reply c.in-Err.why c.requires.fits c.in-Err.ensures.told c.in-Err.ensures.outright _ (rw c.requires.ended tt)

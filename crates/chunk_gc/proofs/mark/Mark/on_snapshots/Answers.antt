@@ -8,4 +8,4 @@ pub returns-in-Ok-clause-took : goal.returns-in-Ok-clause-took
 returns-in-Ok-clause-took c = went _ _ _ (listing-tells Snapshots) c.args.reply c.in-Ok.listed (sym c.in-Ok.ensures.told) _ _ (rw c.as_slice.ensures at c.after_objects.ensures.lands) c.after_objects.ensures.calm
 
 pub returns-in-Err-clause-took : goal.returns-in-Err-clause-took
-returns-in-Err-clause-took c = refused _ _ _ (listing-tells Snapshots) c.args.reply c.in-Err.why c.requires.fits (λ n. sym c.in-Err.ensures.told) _ (rw c.requires.ended tt)
+returns-in-Err-clause-took c = refused _ _ _ (listing-tells Snapshots) c.args.reply c.in-Err.why c.requires.fits (λ n. sym c.in-Err.ensures.told) (λ n. c.in-Err.ensures.told) _ (rw c.requires.ended tt)

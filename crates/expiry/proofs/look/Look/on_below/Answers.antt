@@ -8,7 +8,7 @@ pub returns-in-Ok-clause-took : goal.returns-in-Ok-clause-took
 returns-in-Ok-clause-took c = below-went c.args.walk.left c.args.self.now.terms.cutoff c.args.walk.last c.args.walk.next c.args.reply c.in-Ok.seen c.requires.awaited c.in-Ok.ensures.told _ _ c.after_below.ensures.lands c.after_below.ensures.calm
 
 pub returns-in-Err-clause-took : goal.returns-in-Err-clause-took
-returns-in-Err-clause-took c = below-refused c.args.walk.left c.args.self.now.terms.cutoff c.args.walk.last c.args.walk.next c.args.reply c.in-Err.why c.requires.awaited c.in-Err.ensures.told _ (state-over _ _ _ c.requires.ended)
+returns-in-Err-clause-took c = below-refused c.args.walk.left c.args.self.now.terms.cutoff c.args.walk.last c.args.walk.next c.args.reply c.in-Err.why c.requires.awaited c.in-Err.ensures.told c.in-Err.ensures.outright _ (state-over _ _ _ c.requires.ended)
 
 pub returns-in-Err-clause-falls : goal.returns-in-Err-clause-falls
 returns-in-Err-clause-falls c = state-falls c.args.self.now.state c.args.walk.left c.requires.ended (below-awaits _ _ _ _ c.args.reply c.requires.awaited)

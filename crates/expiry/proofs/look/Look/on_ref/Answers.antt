@@ -13,4 +13,4 @@ returns-in-Ok-clause-took c =
     went (Get key) (ref_seen key) (look_named c.args.self.now.terms key) (ref-tells key) c.args.reply c.in-Ok.named c.in-Ok.ensures.told (look_rest c.after_ref.new.self) (Ok c.after_ref.result) c.after_ref.ensures.lands tt
 
 pub returns-in-Err-clause-took : goal.returns-in-Err-clause-took
-returns-in-Err-clause-took c = refused _ _ _ (ref-tells c.args.self.now.key) c.args.reply c.in-Err.why c.requires.fits c.in-Err.ensures.told _ (state-over _ _ _ c.requires.ended)
+returns-in-Err-clause-took c = refused _ _ _ (ref-tells c.args.self.now.key) c.args.reply c.in-Err.why c.requires.fits c.in-Err.ensures.told c.in-Err.ensures.outright _ (state-over _ _ _ c.requires.ended)

@@ -12,12 +12,12 @@ use Rattle.mirror.proofs.mirror.Mirror.on_list.Goals as goal
 pub returns-in-Ok-clause-took : goal.returns-in-Ok-clause-took
 returns-in-Ok-clause-took c =
     let m = c.args.self.now in
-    went (work_of m) From (ListPart (part_of m.register.phase)) listed_told (λ l. copy_refs (ref_ids (live l.entries)) (work_of m) (behind_refs m.register.phase)) c.args.reply c.in-Ok.listed _ (λ a b. refl) refl (sym c.in-Ok.ensures) (rw c.as_slice.ensures at c.after_list.ensures.lands)
+    went (work_of m) From (ListPart (part_of m.register.phase)) listed_told (λ l. copy_refs (ref_ids (live l.entries)) (work_of m) (behind_refs m.register.phase)) c.args.reply c.in-Ok.listed _ (λ a b. (refl, refl)) refl (sym c.in-Ok.ensures) (rw c.as_slice.ensures at c.after_list.ensures.lands)
 
 pub returns-in-Err-clause-took : goal.returns-in-Err-clause-took
 returns-in-Err-clause-took c =
     let m = c.args.self.now in
-    was-refused (work_of m) From (ListPart (part_of m.register.phase)) listed_told (λ l. copy_refs (ref_ids (live l.entries)) (work_of m) (behind_refs m.register.phase)) c.args.reply c.in-Err.why _ (λ a b. refl) (sym c.in-Err.ensures) (rw c.refuse.ensures refl)
+    was-refused (work_of m) From (ListPart (part_of m.register.phase)) listed_told (λ l. copy_refs (ref_ids (live l.entries)) (work_of m) (behind_refs m.register.phase)) c.args.reply c.in-Err.why _ (λ a b. (refl, refl)) (sym c.in-Err.ensures) (rw c.refuse.ensures refl)
 
 pub returns-in-Ok-clause-outright : goal.returns-in-Ok-clause-outright
 returns-in-Ok-clause-outright c = goes-on (work_of c.args.self.now) (listed_told c.args.reply) c.in-Ok.listed _ (sym c.in-Ok.ensures)

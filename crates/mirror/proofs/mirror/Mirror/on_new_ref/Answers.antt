@@ -20,7 +20,7 @@ returns-in-Ok-clause-took c =
     let r = one.0 in
     let rs = one.1 in
     let next = λ (v : Work). copy_refs rs v (behind_refs m.register.phase) in
-    took-first m.register.names rs r (work_of m) (λ r next. make_ref r m.target (work_of m) next) m.register.phase c.args.reply _ one.2 (went-surely (work_of m) To (PutNew (key_of r) (ref_bytes m.target) (cause_of (key_of r))) made_told (λ done. next (with_ref r m.target true (work_of m))) c.args.reply tt _ (λ a b. refl) (sym c.in-Ok.ensures) (c.told_ref.ensures.lands ∙ at-first m.register.names rs r (work_of m) (λ r next. next (with_ref r m.target true (work_of m))) m.register.phase one.2))
+    took-first m.register.names rs r (work_of m) (λ r next. make_ref r m.target (work_of m) next) m.register.phase c.args.reply _ one.2 (went-surely (work_of m) To (PutNew (key_of r) (ref_bytes m.target) (cause_of (key_of r))) made_told (λ done. next (with_ref r m.target true (work_of m))) c.args.reply tt _ (λ a b. (refl, refl)) (sym c.in-Ok.ensures) (c.told_ref.ensures.lands ∙ at-first m.register.names rs r (work_of m) (λ r next. next (with_ref r m.target true (work_of m))) m.register.phase one.2))
 
 pub returns-in-Err-clause-took : goal.returns-in-Err-clause-took
 returns-in-Err-clause-took c =
@@ -29,4 +29,4 @@ returns-in-Err-clause-took c =
     let r = one.0 in
     let rs = one.1 in
     let next = λ (v : Work). copy_refs rs v (behind_refs m.register.phase) in
-    took-first m.register.names rs r (work_of m) (λ r next. make_ref r m.target (work_of m) next) m.register.phase c.args.reply _ one.2 (was-refused (work_of m) To (PutNew (key_of r) (ref_bytes m.target) (cause_of (key_of r))) made_told (λ done. next (with_ref r m.target true (work_of m))) c.args.reply c.in-Err.why _ (λ a b. refl) (sym c.in-Err.ensures) (rw c.refuse.ensures refl))
+    took-first m.register.names rs r (work_of m) (λ r next. make_ref r m.target (work_of m) next) m.register.phase c.args.reply _ one.2 (was-refused (work_of m) To (PutNew (key_of r) (ref_bytes m.target) (cause_of (key_of r))) made_told (λ done. next (with_ref r m.target true (work_of m))) c.args.reply c.in-Err.why _ (λ a b. (refl, refl)) (sym c.in-Err.ensures) (rw c.refuse.ensures refl))

@@ -13,21 +13,21 @@ returns-in-Ok-true-clause-took c =
     let m = c.args.self.now in
     let key = object_key c.args.object m in
     let bytes = object_bytes c.args.object m in
-    went (work_of m) To (PutNew key bytes (cause_of key)) put_told (put_behind key bytes (work_of m) (behind_object c.args.object m)) c.args.reply true _ (λ a b. refl) (object-still c.args.object m) (sym (rw c.in-Ok-true.field-0-test at c.in-Ok-true.ensures)) c.after_put.ensures.lands
+    went (work_of m) To (PutNew key bytes (cause_of key)) put_told (put_behind key bytes (work_of m) (behind_object c.args.object m)) c.args.reply true _ (λ a b. (refl, refl)) (object-still c.args.object m) (sym (rw c.in-Ok-true.field-0-test at c.in-Ok-true.ensures)) c.after_put.ensures.lands
 
 pub returns-in-Ok-false-clause-took : goal.returns-in-Ok-false-clause-took
 returns-in-Ok-false-clause-took c =
     let m = c.args.self.now in
     let key = object_key c.args.object m in
     let bytes = object_bytes c.args.object m in
-    went (work_of m) To (PutNew key bytes (cause_of key)) put_told (put_behind key bytes (work_of m) (behind_object c.args.object m)) c.args.reply false _ (λ a b. refl) (object-still c.args.object m) (sym (rw c.in-Ok-false.field-0-test at c.in-Ok-false.ensures)) (inl (same-next c.args.object m))
+    went (work_of m) To (PutNew key bytes (cause_of key)) put_told (put_behind key bytes (work_of m) (behind_object c.args.object m)) c.args.reply false _ (λ a b. (refl, refl)) (object-still c.args.object m) (sym (rw c.in-Ok-false.field-0-test at c.in-Ok-false.ensures)) (inl (same-next c.args.object m))
 
 pub returns-in-Err-clause-took : goal.returns-in-Err-clause-took
 returns-in-Err-clause-took c =
     let m = c.args.self.now in
     let key = object_key c.args.object m in
     let bytes = object_bytes c.args.object m in
-    was-refused (work_of m) To (PutNew key bytes (cause_of key)) put_told (put_behind key bytes (work_of m) (behind_object c.args.object m)) c.args.reply c.in-Err.why _ (λ a b. refl) (sym c.in-Err.ensures) (rw c.refuse.ensures refl)
+    was-refused (work_of m) To (PutNew key bytes (cause_of key)) put_told (put_behind key bytes (work_of m) (behind_object c.args.object m)) c.args.reply c.in-Err.why _ (λ a b. (refl, refl)) (sym c.in-Err.ensures) (rw c.refuse.ensures refl)
 
 pub returns-in-Ok-true-clause-outright : goal.returns-in-Ok-true-clause-outright
 returns-in-Ok-true-clause-outright c = goes-on (work_of c.args.self.now) (put_told c.args.reply) true _ (sym (rw c.in-Ok-true.field-0-test at c.in-Ok-true.ensures))

@@ -10,13 +10,13 @@ pub returns-in-Ok-clause-took : goal.returns-in-Ok-clause-took
 returns-in-Ok-clause-took c =
     let m = c.args.self.now in
     let key = object_key c.args.object m in
-    went (work_of m) From (Get key) (bytes_told From key) (taken c.args.object m (work_of m)) c.args.reply c.in-Ok.bytes _ (λ a b. refl) refl (sym (rw c.key_of.ensures at c.in-Ok.ensures)) c.after_take.ensures.lands
+    went (work_of m) From (Get key) (bytes_told From key) (taken c.args.object m (work_of m)) c.args.reply c.in-Ok.bytes _ (λ a b. (refl, refl)) refl (sym (rw c.key_of.ensures at c.in-Ok.ensures)) c.after_take.ensures.lands
 
 pub returns-in-Err-clause-took : goal.returns-in-Err-clause-took
 returns-in-Err-clause-took c =
     let m = c.args.self.now in
     let key = object_key c.args.object m in
-    was-refused (work_of m) From (Get key) (bytes_told From key) (taken c.args.object m (work_of m)) c.args.reply c.in-Err.why _ (λ a b. refl) (sym (rw c.key_of.ensures at c.in-Err.ensures)) (rw c.refuse.ensures refl)
+    was-refused (work_of m) From (Get key) (bytes_told From key) (taken c.args.object m (work_of m)) c.args.reply c.in-Err.why _ (λ a b. (refl, refl)) (sym (rw c.key_of.ensures at c.in-Err.ensures)) (rw c.refuse.ensures refl)
 
 pub returns-in-Ok-clause-outright : goal.returns-in-Ok-clause-outright
 returns-in-Ok-clause-outright c =

@@ -20,11 +20,11 @@ returns-in-Ok-clause-took c =
     let m = c.args.self.now in
     let r = c.first.result.now in
     let rs = c.first.ensures.0 in
-    took-first m.register.names rs r (work_of m) (λ r next. point r m.target (work_of m) next) m.register.phase c.args.reply _ c.first.ensures.1 (went (work_of m) To (Get (key_of r)) (ref_told To (key_of r)) (see_ref r m.target (work_of m) (λ v. copy_refs rs v (behind_refs m.register.phase))) c.args.reply c.in-Ok.there _ (λ a b. refl) refl c.in-Ok.ensures (inl (c.after_target.ensures.lands ∙ at-first m.register.names rs r (work_of m) (λ r next. see_ref r m.target (work_of m) next c.in-Ok.there) m.register.phase c.first.ensures.1)))
+    took-first m.register.names rs r (work_of m) (λ r next. point r m.target (work_of m) next) m.register.phase c.args.reply _ c.first.ensures.1 (went (work_of m) To (Get (key_of r)) (ref_told To (key_of r)) (see_ref r m.target (work_of m) (λ v. copy_refs rs v (behind_refs m.register.phase))) c.args.reply c.in-Ok.there _ (λ a b. (refl, refl)) refl c.in-Ok.ensures.told (inl (c.after_target.ensures.lands ∙ at-first m.register.names rs r (work_of m) (λ r next. see_ref r m.target (work_of m) next c.in-Ok.there) m.register.phase c.first.ensures.1)))
 
 pub returns-in-Err-clause-took : goal.returns-in-Err-clause-took
 returns-in-Err-clause-took c =
     let m = c.args.self.now in
     let r = c.first.result.now in
     let rs = c.first.ensures.0 in
-    took-first m.register.names rs r (work_of m) (λ r next. point r m.target (work_of m) next) m.register.phase c.args.reply _ c.first.ensures.1 (was-refused-so (work_of m) To (Get (key_of r)) (ref_told To (key_of r)) (see_ref r m.target (work_of m) (λ v. copy_refs rs v (behind_refs m.register.phase))) c.args.reply c.in-Err.why _ (λ a b. refl) refl c.in-Err.ensures (rw c.refuse.ensures refl))
+    took-first m.register.names rs r (work_of m) (λ r next. point r m.target (work_of m) next) m.register.phase c.args.reply _ c.first.ensures.1 (was-refused-so (work_of m) To (Get (key_of r)) (ref_told To (key_of r)) (see_ref r m.target (work_of m) (λ v. copy_refs rs v (behind_refs m.register.phase))) c.args.reply c.in-Err.why _ (λ a b. (refl, refl)) refl c.in-Err.ensures.told c.in-Err.ensures.outright (rw c.refuse.ensures refl))

@@ -19,7 +19,7 @@ returns-in-Ok-clause-took c =
     let one = first-awaited m.register.names (work_of m) (λ r next. see_tag r m.target (work_of m) next c.args.there) m.register.phase c.args.reply c.requires.awaited in
     let r = one.0 in
     let rs = one.1 in
-    took-first m.register.names rs r (work_of m) (λ r next. see_tag r m.target (work_of m) next c.args.there) m.register.phase c.args.reply _ one.2 (went (work_of m) To (Get (Tombstone r.name)) buried_told (unless_buried r m.target (work_of m) (λ v. copy_refs rs v (behind_refs m.register.phase)) c.args.there) c.args.reply c.in-Ok.buried _ (λ a b. refl) refl (sym c.in-Ok.ensures) (subst (λ p. Lands m.register.refs p (mirror_rest c.after_tombstone.new.self)) (at-first m.register.names rs r (work_of m) (λ r next. unless_buried r m.target (work_of m) next c.args.there c.in-Ok.buried) m.register.phase one.2) c.after_tombstone.ensures.lands))
+    took-first m.register.names rs r (work_of m) (λ r next. see_tag r m.target (work_of m) next c.args.there) m.register.phase c.args.reply _ one.2 (went (work_of m) To (Get (Tombstone r.name)) buried_told (unless_buried r m.target (work_of m) (λ v. copy_refs rs v (behind_refs m.register.phase)) c.args.there) c.args.reply c.in-Ok.buried _ (λ a b. (refl, refl)) refl (sym c.in-Ok.ensures) (subst (λ p. Lands m.register.refs p (mirror_rest c.after_tombstone.new.self)) (at-first m.register.names rs r (work_of m) (λ r next. unless_buried r m.target (work_of m) next c.args.there c.in-Ok.buried) m.register.phase one.2) c.after_tombstone.ensures.lands))
 
 pub returns-in-Err-clause-took : goal.returns-in-Err-clause-took
 returns-in-Err-clause-took c =
@@ -27,7 +27,7 @@ returns-in-Err-clause-took c =
     let one = first-awaited m.register.names (work_of m) (λ r next. see_tag r m.target (work_of m) next c.args.there) m.register.phase c.args.reply c.requires.awaited in
     let r = one.0 in
     let rs = one.1 in
-    took-first m.register.names rs r (work_of m) (λ r next. see_tag r m.target (work_of m) next c.args.there) m.register.phase c.args.reply _ one.2 (was-refused (work_of m) To (Get (Tombstone r.name)) buried_told (unless_buried r m.target (work_of m) (λ v. copy_refs rs v (behind_refs m.register.phase)) c.args.there) c.args.reply c.in-Err.why _ (λ a b. refl) (sym c.in-Err.ensures) (rw c.refuse.ensures refl))
+    took-first m.register.names rs r (work_of m) (λ r next. see_tag r m.target (work_of m) next c.args.there) m.register.phase c.args.reply _ one.2 (was-refused (work_of m) To (Get (Tombstone r.name)) buried_told (unless_buried r m.target (work_of m) (λ v. copy_refs rs v (behind_refs m.register.phase)) c.args.there) c.args.reply c.in-Err.why _ (λ a b. (refl, refl)) (sym c.in-Err.ensures) (rw c.refuse.ensures refl))
 
 pub returns-in-Ok-clause-outright : goal.returns-in-Ok-clause-outright
 returns-in-Ok-clause-outright c = goes-on (work_of c.args.self.now) (buried_told c.args.reply) c.in-Ok.buried _ (sym c.in-Ok.ensures)

@@ -15,5 +15,6 @@ returns-in-Ok-clause-took c =
 
 pub returns-in-Err-clause-took : goal.returns-in-Err-clause-took
 returns-in-Err-clause-took c =
-    state-log-refused c.args.self.now.policy c.args.self.now.session c.args.solving c.file.result.now c.args.reply c.in-Err.why c.file.ensures.value c.requires.awaited (λ _. ap (λ (id : Id12). log_told id c.args.reply) (sym c.id.ensures) ∙ sym c.in-Err.ensures.told) _
+    state-log-refused c.args.self.now.policy c.args.self.now.session c.args.solving c.file.result.now c.args.reply c.in-Err.why c.file.ensures.value c.requires.awaited (λ _. ap (λ (id : Id12). log_told id c.args.reply) (sym c.id.ensures) ∙ sym c.in-Err.ensures.told)
+    (λ _. c.in-Err.ensures.told ∙ ap (λ (id : Id12). log_told id c.args.reply) c.id.ensures) _
     (state-over c.args.self.now.policy c.args.self.now.session c.args.self.now.state c.requires.ended)

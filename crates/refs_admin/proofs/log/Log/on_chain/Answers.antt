@@ -5,7 +5,7 @@ use Rattle.refs_admin.proofs.log.Log.on_chain.Goals as goal
 pub returns-in_err-loaded-clause-took : goal.returns-in_err-loaded-clause-took
 returns-in_err-loaded-clause-took c =
     let p = err_from_is_err_and c.from_residual.result c.from_residual.ensures.1 in
-    rw (p.1, p.2) (walk-refused c.args.walk.left c.args.walk.lines c.args.walk.next c.args.reply c.in_err-loaded.field-0.0 c.requires.awaited c.in_err-loaded.ensures.told _ (state-over _ c.requires.ended))
+    rw (p.1, p.2) (walk-refused c.args.walk.left c.args.walk.lines c.args.walk.next c.args.reply c.in_err-loaded.field-0.0 c.requires.awaited c.in_err-loaded.ensures.told c.in_err-loaded.ensures.outright _ (state-over _ c.requires.ended))
 
 pub returns-in_err-loaded-clause-falls : goal.returns-in_err-loaded-clause-falls
 returns-in_err-loaded-clause-falls c = state-falls _ c.args.walk c.args.reply c.requires.ended c.requires.awaited

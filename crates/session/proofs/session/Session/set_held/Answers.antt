@@ -16,4 +16,4 @@ returns-then-len-le-MOST_INLINE c =
 pub returns-else-len-le-MOST_INLINE : goal.returns-else-len-le-MOST_INLINE
 returns-else-len-le-MOST_INLINE c =
     let long : nat_le (length c.args.bytes) most_inline ≡ false = grind (arith, nat_tests, c.len.ensures, c.if-len-le-MOST_INLINE.false) in
-    subst (λ (p : Program SessionState). SetBegun p c.args.self c.set_object.result) (held_by c.args.self c.args.node c.args.index c.args.bytes false long) c.set_object.ensures
+    subst (λ (p : Program SessionState). SetBegun p c.args.self c.set_object.result) (held_by c.args.self c.args.node c.args.index c.args.bytes false long) c.set_object.ensures.sets
