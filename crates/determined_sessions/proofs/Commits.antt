@@ -25,7 +25,7 @@ use Rattle.commit_path.proofs.Putting.{puts-kept}
 use Rattle.play_script.specs.declared.scripts.Task.{Task}
 use Rattle.run_histories.specs.Told.{HasHistories, IsEntered, CommitsEnter}
 use Rattle.run_histories.proofs.Sized.{changes-stay}
-use Rattle.run_promise.specs.Promise.{TakesEffect}
+use Rattle.play_course.specs.Promise.{TakesEffect}
 use Rattle.determined_sessions.specs.Commits.{Account, AreSameOver, CommitsLaw}
 
 some-same : {A : Type 0} (a b : A) → Some a ≡ Some b → a ≡ b

@@ -8,7 +8,7 @@ use Rattle.store_api.specs.declared.machines.Refusal.{Refusal}
 use Rattle.session.specs.Sessions.{SessionState}
 use Rattle.session.specs.Chunks.{most_inline, with_chunk, after_draw}
 use Rattle.session.specs.Opening.{Asked, begun}
-use Rattle.chunk_calls.specs.Told.{WasSet, WasPutOut}
+use Rattle.region_calls.specs.ChunkTold.{WasSet, WasPutOut}
 use Rattle.region_calls.specs.Written.{AreSet, WasWritten}
 use Rattle.commit_path.specs.Opened.{WasBegun}
 use Rattle.script_calls.specs.declared.calls.Access.{Access}

@@ -30,8 +30,8 @@ use Rattle.script_calls.specs.declared.calls.EditCall.TheVariants as E
 use Rattle.script_calls.specs.declared.calls.Call.{Call}
 use Rattle.script_calls.specs.declared.calls.Call.TheVariants as C
 use Rattle.play_outcome.specs.declared.outcome.Shown.{Shown}
-use Rattle.run_promise.specs.Lines.{text_put, key_put, edit_of, Edits, PutsBox, Changed, Does, DoesAll}
-use Rattle.run_promise.specs.Ways.{Carried, stays, over}
+use Rattle.play_course.specs.Lines.{text_put, key_put, edit_of, Edits, PutsBox, Changed, Does, DoesAll}
+use Rattle.play_course.specs.Ways.{Carried, stays, over}
 use Rattle.determined_sessions.specs.Trees.{id_added, edit_ids, id_given, ids_given, but_leases, PlaysLaw, links_of, CarriedLaw}
 
 some-same : {A : Type 0} (a b : A) → Some a ≡ Some b → a ≡ b

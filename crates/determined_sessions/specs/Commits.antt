@@ -10,7 +10,7 @@ use Rattle.store_api.specs.Journal.{tree_of}
 use Rattle.histories.specs.Formats.{files_by}
 use Rattle.play_script.specs.declared.scripts.Task.{Task}
 use Rattle.run_histories.specs.Told.{HasHistories}
-use Rattle.run_promise.specs.Promise.{TakesEffect}
+use Rattle.play_course.specs.Promise.{TakesEffect}
 
 -- An account of what led from one journal to another: tasks that were played, with these ids, from
 -- a start on. Each run gives one.

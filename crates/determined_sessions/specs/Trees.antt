@@ -15,8 +15,8 @@ use Rattle.script_calls.specs.declared.calls.Call.TheVariants as C
 use Rattle.play_script.specs.declared.scripts.Line.{Line}
 use Rattle.play_outcome.specs.declared.outcome.Shown.{Shown}
 use Rattle.play_outcome.specs.declared.outcome.Shown.TheVariants.{Lease as Shown_lease}
-use Rattle.run_promise.specs.Lines.{Changed, Does, DoesAll}
-use Rattle.run_promise.specs.Ways.{Carried, stays, over}
+use Rattle.play_course.specs.Lines.{Changed, Does, DoesAll}
+use Rattle.play_course.specs.Ways.{Carried, stays, over}
 
 -- ---- lines
 -- the id of the node that an edit adds, if it adds one

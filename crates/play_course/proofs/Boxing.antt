@@ -46,8 +46,8 @@ use Rattle.commit_path.specs.Opened.{IsOpened}
 use Rattle.commit_path.proofs.Knowing.{IsOpened-append}
 use Rattle.commit_path.proofs.Sources.{later-same}
 use Rattle.commit_path.proofs.Putting.{extends-more, puts-kept}
-use Rattle.chunk_calls.proofs.Gets.{OnlyGets}
-use Rattle.chunk_calls.proofs.Seen.{IsThere}
+use Rattle.region_calls.proofs.ChunkGets.{OnlyGets}
+use Rattle.region_calls.proofs.Seen.{IsThere}
 use Rattle.region_cells.specs.Walks.{chunks_met}
 use Rattle.array_region.specs.Planning.{box_count, IsBoxOf}
 use Rattle.array_region.specs.Reading.{Kept, Chunk, Reads, keeping, entry_kept, in_file, got_kept, in_manifest, file_kept, listed_kept, entered_kept, chunk_kept, with_value, read_chunks, read_box, read_array, region_program}

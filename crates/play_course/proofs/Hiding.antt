@@ -43,7 +43,7 @@ use Rattle.leases.specs.Plays.{witness_of, lease_with}
 use Rattle.leases.specs.Starting.{lease_of}
 use Rattle.leases.specs.Telling.{LeaseTells, PlacedTells, UnplacedTells}
 use Rattle.zarr_keys.specs.Keys.{put_over}
-use Rattle.chunk_calls.specs.Told.{SetTells, GetTells}
+use Rattle.region_calls.specs.ChunkTold.{SetTells, GetTells}
 use Rattle.script_calls.specs.declared.calls.Call.{Call}
 use Rattle.script_calls.specs.declared.calls.Call.TheVariants.{Edit, Read, Commit, Ref, Prop, Lease}
 use Rattle.script_calls.specs.declared.calls.EditCall.{EditCall}

@@ -39,7 +39,7 @@ use Rattle.run_histories.proofs.Sources.{node-spends}
 use Rattle.run_histories.proofs.Drawing.{are-among}
 use Rattle.run_histories.proofs.Edits.{OwnAreNew, IsKept, GoesOn}
 use Rattle.run_histories.proofs.Sized.{normal-in, sized-keeps}
-use Rattle.chunk_calls.proofs.Seen.{IsThere}
+use Rattle.region_calls.proofs.Seen.{IsThere}
 use Rattle.play_course.proofs.Tidy.{Client, AreIts, put-stands}
 use Rattle.play_course.proofs.Knowing.{IsSoFar, OfOthers, OfOwn, Before, before-others, before-got, good-others}
 

@@ -22,7 +22,7 @@ use Rattle.leases.specs.declared.witness.Witness.{Witness}
 use Rattle.leases.specs.declared.witness.Witness.TheVariants as W
 use Rattle.leases.specs.Plays.{stands_at, has_none, confirmed, release_play}
 use Rattle.commit_path.proofs.Knowing.{IsOpened-append}
-use Rattle.chunk_calls.proofs.Setting.{entries-opened}
+use Rattle.region_calls.proofs.Setting.{entries-opened}
 use Rattle.play_outcome.specs.declared.outcome.Shown.{Shown}
 use Rattle.play_outcome.specs.declared.outcome.Shown.TheVariants.{Node, Meta, Chunk, Fill, Cells, Key, Log, Lease}
 use Rattle.play_outcome.specs.declared.outcome.End.{End}

@@ -25,3 +25,11 @@ mod Expiring
 mod Checking
 mod Hiding
 mod Whole
+mod Objects
+mod Releasing
+mod Lines
+mod Bodies
+mod Ways
+mod Commits
+mod Ends
+mod Promises

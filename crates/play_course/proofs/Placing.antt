@@ -27,7 +27,7 @@ use Rattle.session.specs.Editing.{refusal_of_edit}
 use Rattle.session.specs.Chunks.{with_chunk, after_draw, after_object, put_object, set_program}
 use Rattle.commit_path.specs.Opened.{IsOpened}
 use Rattle.commit_path.proofs.Knowing.{IsOpened-append}
-use Rattle.chunk_calls.proofs.Setting.{taken, entries-opened, chunk-opened, IsOut, session_out, set-cases, part-whole}
+use Rattle.region_calls.proofs.Setting.{taken, entries-opened, chunk-opened, IsOut, session_out, set-cases, part-whole}
 use Rattle.run_histories.proofs.Edits.{SetsChunk, Edits, edit-goes, edit-base, own-stay}
 use Rattle.run_histories.proofs.Drawing.{set-draws}
 use Rattle.play_course.specs.Refusing.{is_strange}

@@ -42,7 +42,7 @@ use Rattle.session.specs.Chunks.{found_bytes, read_object, read_place, read_entr
 use Rattle.commit_path.proofs.Knowing.{IsOpened-append}
 use Rattle.commit_path.proofs.Putting.{extends-same, extends-more, puts-kept}
 use Rattle.commit_path.proofs.Readable.{some_of}
-use Rattle.chunk_calls.proofs.Seen.{IsThere, there, by-entry, by-base}
+use Rattle.region_calls.proofs.Seen.{IsThere, there, by-entry, by-base}
 use Rattle.play_course.specs.Refusing.{is_strange}
 use Rattle.play_course.proofs.Tidy.{Client}
 use Rattle.play_course.proofs.Meeting.{was-read, Meets, done-meets, ask-meets, got-meets}

@@ -47,9 +47,9 @@ use Rattle.session.specs.Sessions.{SessionState, nodes_seen, overlay}
 use Rattle.session.specs.Arrays.{array_at}
 use Rattle.session.specs.Editing.{refusal_of_edit}
 use Rattle.session.specs.Chunks.{with_chunk, set_program, put_object, after_object, found_bytes, read_object, read_own, read_place}
-use Rattle.chunk_calls.proofs.Growing.{Surely-append}
-use Rattle.chunk_calls.proofs.Lasting.{WasSet-append}
-use Rattle.chunk_calls.proofs.Setting.{session_out, set-cases}
+use Rattle.region_calls.proofs.Growing.{Surely-append}
+use Rattle.region_calls.proofs.Lasting.{WasSet-append}
+use Rattle.region_calls.proofs.Setting.{session_out, set-cases}
 use Rattle.region_cells.specs.Walks.{chunks_met}
 use Rattle.array_region.specs.Cells.{cells_of}
 use Rattle.array_region.specs.Planning.{box_count}

@@ -17,8 +17,8 @@ use Rattle.commit_path.specs.Owed.{Sessions, IsCareful}
 use Rattle.commit_path.specs.Laws.{OpeningLaw, SessionLaw, CommitLaw}
 use Rattle.commit_path.specs.Own.{OwesOwn, OwningLaw}
 use Rattle.commit_path.specs.Single.{HasPutNone, SingleLaw}
-use Rattle.chunk_calls.specs.Laws.{SetLaw, GetLaw, OwningCallsLaw}
-use Rattle.chunk_calls.proofs.Lasting.{WasSet-append, IsChunk-append}
+use Rattle.region_calls.specs.ChunkLaws.{SetLaw, GetLaw, OwningCallsLaw}
+use Rattle.region_calls.proofs.Lasting.{WasSet-append, IsChunk-append}
 use Rattle.region_calls.specs.Laws.{RegionLaw, RegionSetLaw, OwningRegionLaw}
 use Rattle.rebase.specs.Laws.{RebaseLaw}
 use Rattle.settle.specs.Laws.{SettleLaw}

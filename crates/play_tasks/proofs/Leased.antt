@@ -30,7 +30,7 @@ use Rattle.commit_path.specs.Own.{Owns, OwnsChunks}
 use Rattle.commit_path.proofs.Sources.{later-drawn12, later-later}
 use Rattle.commit_path.proofs.Singling.{HasPutNone-makes}
 use Rattle.commit_path.proofs.OwnPuts.{HasPutDrawn-later, HasPutDrawn-makes, OwnsChunks-append, drawn-now, not-put, one-object}
-use Rattle.chunk_calls.proofs.OwnCalls.{got-owned}
+use Rattle.region_calls.proofs.OwnCalls.{got-owned}
 use Rattle.repo_read.proofs.Own.{made-more}
 use Rattle.play_tasks.proofs.Carrying.{Minds}
 use Rattle.play_tasks.proofs.Going.{Laws}

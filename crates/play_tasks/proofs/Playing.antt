@@ -35,9 +35,9 @@ use Rattle.commit_path.specs.Spelled.{IsSpelled}
 use Rattle.store_api.proofs.Happening.{ChangedNothing-none}
 use Rattle.commit_path.proofs.Singling.{HasPutNone-none, none-alike}
 use Rattle.commit_path.proofs.Sources.{later-same}
-use Rattle.chunk_calls.specs.Told.{SetTells, GetTells}
-use Rattle.chunk_calls.proofs.Gets.{gets-keep}
-use Rattle.chunk_calls.proofs.OwnCalls.{got-owned}
+use Rattle.region_calls.specs.ChunkTold.{SetTells, GetTells}
+use Rattle.region_calls.proofs.ChunkGets.{gets-keep}
+use Rattle.region_calls.proofs.OwnCalls.{got-owned}
 use Rattle.array_region.specs.Reading.{region_program}
 use Rattle.array_region.specs.Writing.{region_set_program}
 use Rattle.region_calls.specs.Told.{RegionTells}

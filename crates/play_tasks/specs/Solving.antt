@@ -10,7 +10,7 @@ use Rattle.session.specs.Sources.{MayDrawObject}
 use Rattle.session.specs.Chunks.{after_draw}
 use Rattle.object_store.specs.declared.events.Version.{Version}
 use Rattle.object_store.specs.declared.events.Event.{Event}
-use Rattle.chunk_calls.specs.Told.{WasSet, IsChunk}
+use Rattle.region_calls.specs.ChunkTold.{WasSet, IsChunk}
 use Rattle.region_calls.specs.Told.{AreCells}
 use Rattle.region_calls.specs.Written.{WasWritten}
 use Rattle.leases.specs.declared.witness.Witness.{Witness}

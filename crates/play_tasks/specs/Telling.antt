@@ -31,7 +31,7 @@ use Rattle.play_outcome.specs.declared.outcome.Shown.TheVariants.{Lease}
 use Rattle.play_outcome.specs.declared.outcome.End.{End}
 use Rattle.play_outcome.specs.declared.outcome.End.TheVariants.{Committed, Done, Refused, InDoubt}
 use Rattle.play_outcome.specs.declared.outcome.Outcome.{Outcome}
-use Rattle.chunk_calls.specs.Told.{SetTells, GetTells}
+use Rattle.region_calls.specs.ChunkTold.{SetTells, GetTells}
 use Rattle.region_calls.specs.Told.{RegionTells}
 use Rattle.region_calls.specs.Written.{RegionSetTells}
 use Rattle.play_tasks.specs.Lines.{LineDeed, Goes, Sets, Reads, Puts}

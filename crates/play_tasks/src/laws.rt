@@ -2,7 +2,6 @@
 
 ghost use Rattle.play_tasks.specs.Laws.{OutcomeLaw, TaskLaw};
 
-use chunk_calls::{get_law, owning_calls_law, set_law};
 use commit_path::{commit_law, opening_law, owning_law, session_law, single_law};
 use leases::lease_law;
 use play_check::{check_outcome_law, check_task_law};
@@ -10,7 +9,9 @@ use play_collect::{collect_outcome_law, collect_task_law};
 use play_expire::{expire_outcome_law, expire_task_law};
 use play_refs::{refs_outcome_law, refs_task_law};
 use rebase::rebase_law;
-use region_calls::{owning_region_law, region_law, region_set_law};
+use region_calls::{
+    get_law, owning_calls_law, owning_region_law, region_law, region_set_law, set_law,
+};
 use settle::settle_law;
 
 /// Whatever others do, each operation of a task is polite, and what the task owes; if it opens a session, each that puts

@@ -29,10 +29,10 @@ use Rattle.session.specs.Sessions.{SessionState, nodes_seen, overlay}
 use Rattle.session.specs.Arrays.{array_at}
 use Rattle.commit_path.specs.Owed.{IsCareful}
 use Rattle.commit_path.specs.Single.{PutsSnapshot}
-use Rattle.chunk_calls.specs.Told.{value_of}
-use Rattle.chunk_calls.proofs.Growing.{Surely}
-use Rattle.chunk_calls.proofs.Gets.{gets-keep, gets-stay}
-use Rattle.chunk_calls.proofs.Seen.{IsThere}
+use Rattle.region_calls.specs.ChunkTold.{value_of}
+use Rattle.region_calls.proofs.Growing.{Surely}
+use Rattle.region_calls.proofs.ChunkGets.{gets-keep, gets-stay}
+use Rattle.region_calls.proofs.Seen.{IsThere}
 use Rattle.region_cells.specs.Boxes.{box_cells, count_of}
 use Rattle.region_cells.specs.Walks.{AreGridded, chunks_met, firsts_of, ends_of, cell_at, with_part, with_chunk, with_chunks}
 use Rattle.region_cells.specs.Laws.{BoxLaw}

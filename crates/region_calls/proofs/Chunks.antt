@@ -36,10 +36,10 @@ use Rattle.repo_read.specs.Answers.{at_key, manifest_told, object_told}
 use Rattle.repo_read.specs.Programs.{MayRefuseObject}
 use Rattle.session.specs.Sessions.{SessionState, overlay}
 use Rattle.session.specs.Chunks.{found_bytes}
-use Rattle.chunk_calls.specs.Told.{value_of}
-use Rattle.chunk_calls.proofs.Growing.{Surely, Surely-makes}
-use Rattle.chunk_calls.proofs.Gets.{held_of}
-use Rattle.chunk_calls.proofs.Seen.{IsThere, listed_chunk, by-entry, by-base}
+use Rattle.region_calls.specs.ChunkTold.{value_of}
+use Rattle.region_calls.proofs.Growing.{Surely, Surely-makes}
+use Rattle.region_calls.proofs.ChunkGets.{held_of}
+use Rattle.region_calls.proofs.Seen.{IsThere, listed_chunk, by-entry, by-base}
 use Rattle.array_region.specs.Reading.{Kept, Chunk, keeping, in_file, entry_kept, in_manifest, file_kept, listed_kept, entered_kept, chunk_kept}
 use Rattle.array_region.proofs.Looking.{taken}
 

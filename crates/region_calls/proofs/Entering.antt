@@ -22,8 +22,8 @@ use Rattle.session.specs.Sessions.{SessionState}
 use Rattle.session.specs.Sources.{IsLater}
 use Rattle.session.specs.Chunks.{with_chunk, after_object, set_program}
 use Rattle.commit_path.proofs.Sources.{later-later, later-drawn12}
-use Rattle.chunk_calls.proofs.Growing.{Surely}
-use Rattle.chunk_calls.proofs.Setting.{session_out, set-cases, part-whole}
+use Rattle.region_calls.proofs.Growing.{Surely}
+use Rattle.region_calls.proofs.Setting.{session_out, set-cases, part-whole}
 use Rattle.region_calls.proofs.Leading.{By}
 
 -- the chunk is at a place where its bytes are, and nothing else but the ids to draw is otherwise

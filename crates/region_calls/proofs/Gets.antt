@@ -25,7 +25,7 @@ use Rattle.session.specs.Arrays.{array_at}
 use Rattle.region_cells.specs.Walks.{chunks_met}
 use Rattle.array_region.specs.Planning.{box_count}
 use Rattle.array_region.specs.Reading.{Kept, Chunk, keeping, in_file, entry_kept, in_manifest, file_kept, listed_kept, entered_kept, Reads, with_value, read_chunks, read_box, read_array, region_program}
-use Rattle.chunk_calls.proofs.Gets.{OnlyGets, held_of}
+use Rattle.region_calls.proofs.ChunkGets.{OnlyGets, held_of}
 
 bind_gets : {A B : Type 0} (p : Prog A) (f : A → Prog B) → OnlyGets p → ((a : A) → OnlyGets (f a)) → OnlyGets (bind p f)
 bind_gets (Done a) f g h = h a

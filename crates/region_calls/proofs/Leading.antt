@@ -9,7 +9,7 @@ use Rattle.store_api.specs.declared.machines.Refusal.{Refusal}
 use Rattle.store_api.specs.Callers.{Caller, Makes}
 use Rattle.store_api.specs.Program.{Prog, Done, Ask, Leads, bind}
 use Rattle.store_api.specs.Plays.{Stays}
-use Rattle.chunk_calls.proofs.Gets.{OnlyGets}
+use Rattle.region_calls.proofs.ChunkGets.{OnlyGets}
 
 -- this of an answer, that of a refusal
 abbrev pub By : {A : Type 0} → (A → List Event → Type 0) → (Refusal → List Event → Type 0) → Result A Refusal → List Event → Type 0

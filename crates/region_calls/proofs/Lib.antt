@@ -9,3 +9,11 @@ pub mod Seeing
 pub mod Entering
 pub mod Sets
 pub mod Owning
+pub mod Entries
+pub mod Growing
+pub mod ChunkGets
+pub mod Setting
+pub mod Seen
+pub mod Lasting
+pub mod Getting
+pub mod OwnCalls

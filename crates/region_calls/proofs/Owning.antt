@@ -12,9 +12,9 @@ use Rattle.session.specs.Sessions.{SessionState}
 use Rattle.session.specs.Sources.{IsLater}
 use Rattle.session.specs.Chunks.{set_program}
 use Rattle.commit_path.specs.Own.{OwesOwn, Owns}
-use Rattle.chunk_calls.specs.Laws.{OwningCallsLaw}
-use Rattle.chunk_calls.proofs.Gets.{gets-keep}
-use Rattle.chunk_calls.proofs.OwnCalls.{got-owned}
+use Rattle.region_calls.specs.ChunkLaws.{OwningCallsLaw}
+use Rattle.region_calls.proofs.ChunkGets.{gets-keep}
+use Rattle.region_calls.proofs.OwnCalls.{got-owned}
 use Rattle.region_cells.specs.Walks.{chunks_met}
 use Rattle.array_region.specs.Reading.{Kept, Chunk, Reads}
 use Rattle.array_region.specs.Writing.{old_chunk, bytes_put, write_chunks, region_set_program}

@@ -22,9 +22,9 @@ use Rattle.store_api.specs.Journal.{Each, IsGood, IsOnce, puts_of}
 use Rattle.session.specs.Sessions.{SessionState, nodes_seen, base_tree, changes_in, overlay}
 use Rattle.session.specs.Chunks.{with_chunk}
 use Rattle.session.proofs.Places.{chunk-seen}
-use Rattle.chunk_calls.specs.Told.{WasSet}
-use Rattle.chunk_calls.proofs.Growing.{Surely, Surely-append}
-use Rattle.chunk_calls.proofs.Lasting.{WasSet-append}
+use Rattle.region_calls.specs.ChunkTold.{WasSet}
+use Rattle.region_calls.proofs.Growing.{Surely, Surely-append}
+use Rattle.region_calls.proofs.Lasting.{WasSet-append}
 use Rattle.region_calls.specs.Written.{AreSet}
 
 -- ---- one chunk's entry in changes

@@ -53,11 +53,11 @@ use Rattle.commit_path.specs.Opened.{IsOpened}
 use Rattle.commit_path.specs.Owed.{IsCareful}
 use Rattle.commit_path.specs.Single.{PutsSnapshot}
 use Rattle.commit_path.specs.Spelled.{IsSpelled}
-use Rattle.chunk_calls.specs.Told.{FaultIs, SetTells, WasSet}
-use Rattle.chunk_calls.specs.Laws.{SetLaw}
-use Rattle.chunk_calls.proofs.Growing.{Surely, Surely-makes}
-use Rattle.chunk_calls.proofs.Gets.{OnlyGets, gets-keep, got-nothing, gets-stay}
-use Rattle.chunk_calls.proofs.Seen.{IsThere}
+use Rattle.region_calls.specs.ChunkTold.{FaultIs, SetTells, WasSet}
+use Rattle.region_calls.specs.ChunkLaws.{SetLaw}
+use Rattle.region_calls.proofs.Growing.{Surely, Surely-makes}
+use Rattle.region_calls.proofs.ChunkGets.{OnlyGets, gets-keep, got-nothing, gets-stay}
+use Rattle.region_calls.proofs.Seen.{IsThere}
 use Rattle.region_cells.specs.Boxes.{box_cells, count_of, IsInBox}
 use Rattle.region_cells.specs.Walks.{chunks_met, with_written}
 use Rattle.region_cells.proofs.BoxLaws.{whole_box}

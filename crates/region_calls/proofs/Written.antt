@@ -23,7 +23,7 @@ use Rattle.region_cells.specs.Parts.{cell_in}
 use Rattle.region_cells.specs.Walks.{chunk_cell, is_in_box, written_at, with_written}
 use Rattle.array_region.specs.Reading.{Reads, fits}
 use Rattle.array_region.specs.Writing.{is_covered, bytes_read, with_numbers, as_bytes, bytes_put}
-use Rattle.chunk_calls.specs.Told.{value_of}
+use Rattle.region_calls.specs.ChunkTold.{value_of}
 use Rattle.region_calls.specs.Written.{bytes_held}
 
 -- ---- a chunk that is covered

@@ -24,7 +24,7 @@ use Rattle.region_cells.specs.Walks.{chunks_met, filled, with_written}
 use Rattle.array_region.specs.Cells.{cell_number, cells_of}
 use Rattle.array_region.specs.Planning.{box_count}
 use Rattle.array_region.specs.Writing.{cells_refused}
-use Rattle.chunk_calls.specs.Told.{WasSet}
+use Rattle.region_calls.specs.ChunkTold.{WasSet}
 
 -- the bytes of a chunk; one that isn't held has the fill value in each element
 abbrev pub bytes_held : ArrayView → Option (List ℕ) → List ℕ

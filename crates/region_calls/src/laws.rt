@@ -2,7 +2,7 @@
 
 ghost use Rattle.region_calls.specs.Laws.{RegionLaw, RegionSetLaw, OwningRegionLaw};
 
-use chunk_calls::{owning_calls_law, set_law};
+use crate::{owning_calls_law, set_law};
 use commit_path::session_law;
 use region_cells::box_law;
 

@@ -32,3 +32,9 @@ pub mod Running
 pub mod Beginnings
 pub mod Played
 pub mod Joined
+mod Moments
+mod Taking
+mod Commits
+mod One
+mod Several
+mod Needed

@@ -7,7 +7,7 @@ use Rattle.object_store.specs.declared.events.Event.{Event}
 use Rattle.session.specs.Sessions.{SessionState}
 use Rattle.session.specs.Chunks.{chunk_unset}
 use Rattle.commit_path.proofs.Setting.{chunk-unset}
-use Rattle.chunk_calls.specs.Told.{WasSet}
+use Rattle.region_calls.specs.ChunkTold.{WasSet}
 use Rattle.run_histories.proofs.Edits.{SetsChunk, UnsetsChunk}
 
 -- a set that was told

@@ -1,8 +1,12 @@
-//! The theorem of a run: the tasks of a script, played over one store, keep the histories of its branches.
+//! The theorems of a run: the tasks of a script, played over one store, keep the histories of its branches; its collections remove
+//! nothing that a ref, a leased session or an anchored session reaches.
 #![tactic(auto)]
 
+ghost use Rattle.run_histories.specs.Laws.{NeededLaw};
 ghost use Rattle.run_histories.specs.Told.{BegunLaw, NothingLaw, OthersLaw, RunLaw};
 
+use history_laws::{base_found, client_collects, commits_child, refs_kept, sessions_kept};
+use reach::own_law;
 use repo_objects::initial_law;
 
 /// Where a run of tasks goes on a sound journal, to which its clients' ids are new, and nobody else acts,
@@ -33,3 +37,18 @@ pub fn others_law()
 pub fn nothing_law()
     ensures { NothingLaw }
 {}
+
+/// In a run whose branches have their histories, each object that is removed is removed by a collection that dooms it: one that
+/// it listed, when all that its gets of refs reach was marked, as older than its cutoff and not marked. Once it has listed all, and
+/// as long as its cutoff precedes each session that commits beside it and it is quiet, no branch, no tag that stands, no leased and
+/// no anchored session reaches what it dooms, and no session put it that the cutoff precedes; so what they reach stands.
+pub fn needed_law()
+    ensures { NeededLaw }
+{
+    own_law();
+    client_collects();
+    commits_child();
+    refs_kept();
+    sessions_kept();
+    base_found();
+}

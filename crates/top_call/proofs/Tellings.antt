@@ -25,7 +25,7 @@ use Rattle.play_outcome.specs.declared.outcome.Shown.{Shown}
 use Rattle.play_outcome.specs.declared.outcome.Shown.TheVariants as Line
 use Rattle.play_outcome.specs.Ending.{end_failed, is_failed, left_failed, shows_failed}
 use Rattle.play_script.specs.Well.{IsWell}
-use Rattle.run_promise.specs.Law.{PromiseLaw}
+use Rattle.play_course.specs.Law.{PromiseLaw}
 use Rattle.play_report.specs.Report.{report_of}
 use Rattle.play_course.specs.Course.{Course, OnlyBegan, Plays, RanBy}
 use Rattle.top_call.specs.declared.statuses.Causes.{Causes}

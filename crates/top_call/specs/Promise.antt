@@ -16,8 +16,8 @@ use Rattle.play_outcome.specs.declared.outcome.RefLine.{RefLine}
 use Rattle.play_course.specs.Course.{OnlyBegan}
 use Rattle.run_histories.specs.Sources.{IsNewRun}
 use Rattle.run_histories.specs.Runs.{IsSound}
-use Rattle.run_collections.specs.Keeping.{KeepsNeeded}
-use Rattle.run_promise.specs.Promise.{Fulfils}
+use Rattle.run_histories.specs.Keeping.{KeepsNeeded}
+use Rattle.play_course.specs.Promise.{Fulfils}
 use Rattle.command_words.specs.declared.reading.Command.{Command}
 use Rattle.command_words.specs.declared.reading.Command.TheVariants as C
 use Rattle.top_call.specs.declared.statuses.Status.{Status}

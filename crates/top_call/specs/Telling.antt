@@ -24,7 +24,7 @@ use Rattle.zarr_tree.specs.Changes.{Changes}
 use Rattle.run_histories.specs.Sources.{IsNewRun}
 use Rattle.run_histories.specs.Runs.{IsSound}
 use Rattle.play_course.specs.Refusing.{NothingStrange}
-use Rattle.run_promise.specs.Law.{KeepsPromise}
+use Rattle.play_course.specs.Law.{KeepsPromise}
 use Rattle.top_call.specs.declared.statuses.Causes.{Causes}
 use Rattle.top_call.specs.declared.statuses.Status.{Status}
 use Rattle.top_call.specs.Statuses.{status_of}

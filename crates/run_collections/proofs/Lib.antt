@@ -1,6 +1,0 @@
-mod Moments
-mod Taking
-mod Commits
-mod One
-mod Several
-mod Needed

@@ -1,8 +1,0 @@
-mod Objects
-mod Released
-mod Lines
-mod Bodies
-mod Ways
-mod Commits
-mod Ends
-mod Promises

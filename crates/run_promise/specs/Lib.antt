@@ -1,4 +1,0 @@
-pub mod Lines
-pub mod Ways
-pub mod Promise
-pub mod Law
